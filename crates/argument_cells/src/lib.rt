@@ -4,18 +4,18 @@
 
 ghost use Rattle.std.specs.Prelude.{◌≡◌, ◌<◌};
 ghost use Rattle.layout.specs.Table.{letter_place};
-ghost use Rattle.table.specs.Denote.{letter_of};
+ghost use Rattle.table.specs.Denote.{letter_of, ref_number};
 ghost use Rattle.argument_cells.specs.ArgumentCells.{TextNamed, TextTold, CellAsked, CellOf};
 
 use entering::from_arguments::{Quoted, ReadArgument};
 use entering::from_finding;
 use layout::ArgumentKind;
-use table::{Letter, Table};
+use table::{Letter, Table, TextRef};
 
 // The reference of a text.
-pub fn text_of(text: &[u8], q: Quoted, table: Table) -> usize
+pub fn text_of(text: &[u8], q: Quoted, table: Table) -> TextRef
     requires { TextNamed text.now q table.cells.now }
-    ensures { TextTold text.now q table.entry.cells.now result }
+    ensures { TextTold text.now q table.entry.cells.now (ref_number result) }
 {
     let mut word = [0u8; 60];
     let n = spelling::put_text(text, q.at + 1, q.end, &mut word);
@@ -41,7 +41,7 @@ pub fn argument_cell(text: &[u8], x: ReadArgument, table: Table) -> usize
         ReadArgument::Label(mark) => ArgumentKind::Label.cell(mark),
         ReadArgument::Switch(mark) => ArgumentKind::Switch.cell(mark),
         ReadArgument::Class(m) => ArgumentKind::Class.cell(usize::from(m)),
-        ReadArgument::Text(q) => ArgumentKind::Text.cell(text_of(text, q, table)),
+        ReadArgument::Text(q) => ArgumentKind::Text.cell(text_of(text, q, table).number()),
         ReadArgument::Number(code) => {
             ArgumentKind::Number.cell(from_finding::number_ref(table, code))
         }

@@ -1,19 +1,18 @@
 -- The arguments of an instruction: what their reader promises.
-use Rattle.std.specs.Prelude.{◌≡◌, Bool, cond, List, [], ◌∷◌, ◌++◌, ℕ, ◌+◌, ◌-◌, ◌≤◌, min, eqb, ltb, length, drop}
-use Rattle.statements.specs.Checks.{clean, worst}
-use Rattle.statements.specs.Faults.{lower}
+use Rattle.std.specs.Prelude.{◌≡◌, Bool, cond, List, [], ◌∷◌, ◌++◌, ℕ, ◌+◌, ◌-◌, ◌≤◌, eqb, ltb, length, drop}
+use Rattle.statements.specs.Checks.{worst}
+use Rattle.statements.specs.Faults.{Fault, Verdict, lower, worse}
 use Rattle.forms.specs.declared.Live.{Live}
 use Rattle.forms.specs.Forms.{most_of, least_of}
 use Rattle.forms.specs.declared.Taken.{Taken}
 use Rattle.forms.specs.Reading.{Reads, lists_at, read_as, taken_at}
 use Rattle.scanner.specs.Sorts.{sort_in}
-use Rattle.language.specs.Instructions.{operation, operator_of}
+use Rattle.language.specs.Instructions.{operation}
 use Rattle.language.specs.Limits as limit
 use Rattle.language.specs.Program.{Op}
 use Rattle.lexer.specs.declared.Token.{Token}
 use Rattle.lexer.specs.Tokens.{Stands}
 use Rattle.lists.specs.Lists.{each}
-use Rattle.statements.specs.Faults.{Fault}
 use Rattle.std.specs.Prelude.{Option, None, Some, Result, Ok, Err}
 use Rattle.statements.specs.StatementAt.{statement_at, fault_of}
 use Rattle.heads.specs.Heads.{EndedBy}
@@ -22,7 +21,6 @@ use Rattle.syntax.specs.Items.{Item, is, same_sort, places}
 use Rattle.syntax.specs.Items.Sort.{colon}
 use Rattle.arguments.specs.Valued.{ValuesRead}
 use Rattle.arguments.specs.declared.Arguments.{Arguments}
-use Rattle.arguments.specs.declared.Left.{Left}
 
 -- a colon by itself or after a word
 unfoldable pub colons : List Item → List ℕ
@@ -67,41 +65,31 @@ as_read (Err p) = Err p
 abbrev pub Accepts : ℕ → Live → ℕ → Token → ℕ → Result Taken ℕ → Type 0
 Accepts number live place t kinds r = as_read r ≡ accepted (same_sort colon (sort_in t.sort)) t (taken_at number live place kinds)
 
--- the items from n on, after others whose questions 14 to 16 are the number w
-pub record Leaves (s : List ℕ) (n w : ℕ) : Type 0 where
+-- the items from n on
+pub record Leaves (s : List ℕ) (n : ℕ) : Type 0 where
   pub inside : n ≤ length s
   pub low : length s ≤ limit.text
-  pub known : w ≤ clean
-
-pub record ReadsLeft (s : List ℕ) (n skip w : ℕ) (r : Left) : Type 0 where
-  pub over_is : r.over ≡ fault_of (places (drop skip (arguments_in (statement_at s n))))
-  pub count_is : r.count ≡ length (arguments_in (statement_at s n))
-  pub few : r.count ≤ length s
-  pub worst_is : r.worst ≡ min w (worst (statement_at s n))
-  pub ends : EndedBy s n r.next
 
 -- the items from i on, which `place` arguments stand before
-pub record Refusable (s : List ℕ) (number place i w : ℕ) : Type 0 where
-  pub left : Leaves s i w
+pub record Refusable (s : List ℕ) (number place i : ℕ) : Type 0 where
+  pub left : Leaves s i
   pub below : place ≤ most_of number
 
-pub record Refuses (s : List ℕ) (at number place i p w : ℕ) (r : Arguments) : Type 0 where
+pub record Refuses (s : List ℕ) (at number place i p : ℕ) (w : Verdict) (r : Arguments) : Type 0 where
   pub over_is : r.over ≡ fault_of (places (drop (most_of number - place) (arguments_in (statement_at s i))))
   pub fault_is : r.fault ≡ missing_or number at (place + length (arguments_in (statement_at s i))) (Some p)
-  pub worst_is : r.worst ≡ min w (worst (statement_at s i))
+  pub worst_is : r.worst ≡ worse w (worst (statement_at s i))
   pub ends : EndedBy s i r.next
 
--- the operator of a number is the token t; questions 14 to 16 of the items up to it are the number w
-pub record Operates (s : List ℕ) (t : Token) (number w : ℕ) : Type 0 where
+-- the operator is the token t
+pub record Operates (s : List ℕ) (t : Token) : Type 0 where
   pub stands : Stands s t
   pub low : length s ≤ limit.text
-  pub numbered : (operation (operator_of number)).number ≡ number
-  pub known : w ≤ clean
 
 -- 01 and 02; the values, where 02 has no fault; 14 to 16 with those of the items after the operator; and the end of the statement
-pub record ReadsArguments (s : List ℕ) (t : Token) (number w : ℕ) (r : Arguments) : Type 0 where
+pub record ReadsArguments (s : List ℕ) (t : Token) (number : ℕ) (w : Verdict) (r : Arguments) : Type 0 where
   pub counted : (o : Op) → (operation o).number ≡ number → r.over ≡ fault_of (places (drop (most o) (arguments_in (statement_at s t.next))))
   pub judged : InstrFault s t number r.fault
   pub values : r.fault ≡ None → ValuesRead s t.next number r.values
-  pub worst_is : r.worst ≡ min w (worst (statement_at s t.next))
+  pub worst_is : r.worst ≡ worse w (worst (statement_at s t.next))
   pub ends : EndedBy s t.next r.next

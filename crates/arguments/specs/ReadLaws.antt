@@ -1,7 +1,7 @@
 -- One pass over the items after an instruction's operator: what is known of those before a place.
 use Rattle.std.proofs.Math.Path.{◌≡◌, refl, ap}
 use Rattle.std.proofs.Common.{sym, ◌∙◌, subst, add-one, eqb→eq, leb→le, length-append, eqb-true, le-ltb}
-use Rattle.std.specs.Prelude.{Bool, ◌&&◌, ◌||◌, ℕ, zero, suc, ◌+◌, ◌-◌, ◌≤◌, ◌<◌, min, eqb, leb, ltb, drop}
+use Rattle.std.specs.Prelude.{Bool, ◌&&◌, ◌||◌, ℕ, zero, suc, ◌+◌, ◌-◌, ◌≤◌, ◌<◌, eqb, leb, ltb, drop}
 use Rattle.std.proofs.Math.Bool.{true, false, cond, not}
 use mathlib.Core.List.{List, [], ◌∷◌, ◌++◌, map, map-append, append_assoc, append-nil}
 use Rattle.std.proofs.Math.Decide.{dec_lt}
@@ -10,7 +10,7 @@ use Rattle.std.proofs.Math.Dec.{T}
 use Rattle.std.proofs.Math.ListN.{length, set}
 use Rattle.std.proofs.lemmas.List.{length-map}
 use Rattle.std.proofs.Math.Seq.{drop-append-add, drop-nil}
-use Rattle.statements.specs.Checks.{token_code}
+use Rattle.statements.specs.Checks.{token_verdict}
 use Rattle.heads.proofs.Below.RowLaws.{or_right}
 use Rattle.forms.specs.declared.Live.{Live}
 use Rattle.forms.specs.Forms.{listed, set_at, most_of, least_of}
@@ -25,7 +25,7 @@ use Rattle.lexer.specs.declared.Token.{Token}
 use Rattle.lexer.specs.Tokens.{item_of, Stands, NextToken}
 use Rattle.lists.specs.Lists.{all, any}
 use Rattle.lists.specs.ListLaws.{T-left, T-right, all_head, all_tail}
-use Rattle.statements.specs.Faults.{Fault}
+use Rattle.statements.specs.Faults.{Fault, Verdict, worse}
 use Rattle.std.specs.Prelude.{Option, None, Some}
 use Rattle.heads.specs.Heads.{following}
 use Rattle.statements.specs.PlaceLaws.{statement-from}
@@ -35,12 +35,11 @@ use Rattle.syntax.specs.ArgumentForms.{word_reads, reads, Argument, alternatives
 use Rattle.syntax.specs.Items.{Item, is, places}
 use Rattle.syntax.specs.Items.Sort.{colon, text}
 use Rattle.arguments.specs.declared.Arguments.{Arguments}
-use Rattle.arguments.specs.declared.Left.{Left}
 use Rattle.arguments.specs.declared.Value.{Value}
-use Rattle.arguments.specs.Arguments.{read_from, argument_faults, instr_after, missing_or, ReadsLeft, Refusable, Refuses, Operates, ReadsArguments}
+use Rattle.arguments.specs.Arguments.{read_from, argument_faults, instr_after, missing_or, Refusable, Refuses, Operates, ReadsArguments}
 use Rattle.arguments.specs.ArgumentLaws.{items-read, turned, items-end, argument_listed, judged-so}
 use Rattle.arguments.specs.CountLaws.{arguments-on}
-use Rattle.arguments.specs.LeftLaws.{Passing, passing-first, passing-on, passed-worst, passed-end, worst-then, end-then}
+use Rattle.arguments.specs.LeftLaws.{ReadsLeft, Passing, passing-first, passing-on, passed-worst, passed-end, worst-then, end-then}
 use Rattle.arguments.specs.Valued.{no_values, nth, Stood, argument_of, FirstValue, Row, Ordered}
 
 -- ---- an argument that is listed is not in excess
@@ -114,7 +113,7 @@ pub record Before (s : List ℕ) (n : ℕ) (o : Op) (i : ℕ) (live : Live) (pla
   pub faults : fault_of (argument_faults o live place (statement_at s i)) ≡ fault_of (argument_faults o Live.Both 0 (statement_at s n))
 
 -- place i is reached: the arguments before it are all listed and without a colon
-pub record Gathering (s : List ℕ) (n number begun i : ℕ) (live : Live) (place : ℕ) (v : List Value) (w : ℕ) : Type 0 where
+pub record Gathering (s : List ℕ) (n number : ℕ) (begun : Verdict) (i : ℕ) (live : Live) (place : ℕ) (v : List Value) (w : Verdict) : Type 0 where
   pub passing : Passing s n begun i w
   pub few : place ≤ 3
   pub below : place ≤ most_of number
@@ -122,10 +121,10 @@ pub record Gathering (s : List ℕ) (n number begun i : ℕ) (live : Live) (plac
   pub orders : Ordered (statement_at s i) → Ordered (statement_at s n)
   pub before : (o : Op) → (operation o).number ≡ number → Before s n o i live place v
 
-pub gathering-first : {s : List ℕ} {t : Token} {number w : ℕ} → Operates s t number w → {v : List Value} → v ≡ no_values → Gathering s t.next number w t.next Live.Both 0 v w
+pub gathering-first : {s : List ℕ} {t : Token} {number : ℕ} {w : Verdict} → Operates s t → {v : List Value} → v ≡ no_values → Gathering s t.next number w t.next Live.Both 0 v w
 gathering-first {s} {t} {number} {w} g {v} e =
     record {
-      passing = passing-first g.stands.most g.known;
+      passing = passing-first g.stands.most;
       few = omega arith;
       below = omega arith;
       plain = λ q. q;
@@ -139,7 +138,7 @@ gathering-first {s} {t} {number} {w} g {v} e =
       };
     }
 
-module _ {s : List ℕ} {n m begun i : ℕ} {live : Live} {place : ℕ} {v : List Value} {low : ℕ} (l : Gathering s n m begun i live place v low) where
+module _ {s : List ℕ} {n m i : ℕ} {begun : Verdict} {live : Live} {place : ℕ} {v : List Value} {low : Verdict} (l : Gathering s n m begun i live place v low) where
   module _ (o : Op) (h : (operation o).number ≡ m) where
     most-here : most_of m ≡ most o
     most-here = ap most_of (sym h) ∙ most-listed o
@@ -182,7 +181,7 @@ module _ {s : List ℕ} {n m begun i : ℕ} {live : Live} {place : ℕ} {v : Lis
     reads_so o h = subst T (sym (taken-reads (item_of s t) o place live (sym (ap (λ x. x.form) (by o h))) g)) tt
 
     pub gathering-on : (o : Op) → (operation o).number ≡ m → t.colon ≡ None → {x : Value} → x.at ≡ t.at → Stood s (argument_of s t b.form) x.argument → {j : ℕ} → j ≡ place → {v' : List Value} → v' ≡ set v j x
-        → {low' : ℕ} → low' ≡ min low (token_code t) → Gathering s n m begun t.next b.live (place + 1) v' low'
+        → {low' : Verdict} → low' ≡ worse low (token_verdict t) → Gathering s n m begun t.next b.live (place + 1) v' low'
     gathering-on o₁ h₁ y {x} at-is w {j} e₁ {v'} q u =
         record {
           passing = passing-on l.passing k z u;
@@ -218,9 +217,9 @@ judged-by : {s : List ℕ} {t : Token} {number : ℕ} → Stands s t → (o : Op
 unfolding missing_or
 judged-by g o h e q = rw (← e, ← h, least-listed o) (judged-so g o q)
 
-pub refusing : {s : List ℕ} {at number place i p w : ℕ} {before all : ℕ} {left : Left} {f : Fault} → before ≡ place → all ≡ most_of number
-    → ReadsLeft s i (all - before) w left → f ≡ missing_or number at (before + left.count) (Some p)
-    → {v : List Value} → Refuses s at number place i p w (record { over = left.over; fault = f; values = v; worst = left.worst; next = left.next })
+pub refusing : {s : List ℕ} {at number place i p : ℕ} {w : Verdict} {before all count : ℕ} {over f : Fault} {low : Verdict} {next : Option ℕ} → before ≡ place → all ≡ most_of number
+    → ReadsLeft s i (all - before) w over count low next → f ≡ missing_or number at (before + count) (Some p)
+    → {v : List Value} → Refuses s at number place i p w (record { over = over; fault = f; values = v; worst = low; next = next })
 refusing e q l fault_is =
     record {
       over_is = rw (← e, ← q) l.over_is;
@@ -231,7 +230,7 @@ refusing e q l fault_is =
 
 -- ---- the answers
 
-module _ {s : List ℕ} {t : Token} {m begun : ℕ} (g : Operates s t m begun) {i : ℕ} {live : Live} {place : ℕ} {v : List Value} {low : ℕ} (l : Gathering s t.next m begun i live place v low) where
+module _ {s : List ℕ} {t : Token} {m : ℕ} {begun : Verdict} (g : Operates s t) {i : ℕ} {live : Live} {place : ℕ} {v : List Value} {low : Verdict} (l : Gathering s t.next m begun i live place v low) where
   -- no item is left
   pub all_read : {u : Token} → NextToken s i u → stops u.sort ≡ true → {f : Fault} → f ≡ missing_or m t.at place None → {r : Option ℕ} → r ≡ following u
       → ReadsArguments s t m begun (record { over = None; fault = f; values = v; worst = low; next = r })
@@ -255,8 +254,8 @@ module _ {s : List ℕ} {t : Token} {m begun : ℕ} (g : Operates s t m begun) {
         ends = passed-end l.passing k z y;
       }
 
-  pub refusable : Refusable s m place i low
-  refusable = record { left = record { inside = l.passing.within.most; low = g.low; known = l.passing.known }; below = l.below }
+  pub refusable : Refusable s m place i
+  refusable = record { left = record { inside = l.passing.within.most; low = g.low }; below = l.below }
 
   -- place p is at fault
   pub refused : {p : ℕ} → ((o : Op) → (operation o).number ≡ m → fault_of (argument_faults o live place (statement_at s i)) ≡ Some p) → {r : Arguments} → Refuses s t.at m place i p low r

@@ -3,15 +3,18 @@
 
 ghost use Rattle.std.specs.Prelude.{◌≡◌, true, ◌≤◌};
 ghost use Rattle.forms.specs.Letters.{letter};
+ghost use Rattle.language.specs.Instructions.{number_of};
+ghost use Rattle.language.specs.Operators.{op_by};
 ghost use Rattle.language.specs.Program.{identifier};
-ghost use Rattle.arguments.specs.Arguments.{with_excess, missing_or, Accepts, Leaves, ReadsLeft, Refusable, Refuses, Operates, ReadsArguments};
+ghost use Rattle.arguments.specs.Arguments.{with_excess, missing_or, Accepts, Refusable, Refuses, Operates, ReadsArguments};
 ghost use Rattle.arguments.specs.Valued.{no_value, argument_value, WordKind, Found, ItemKind};
 
 use forms::{Form, Forms, Live, Taken, least, most, take_argument};
 use heads::following;
+use language::Operator;
 use lexer::{Token, next_item};
 use scanner::Sort;
-use statements::{Fault, lower, stops, worse};
+use statements::{Fault, Verdict, lower, stops, worse};
 use table::{Letter, letter_by};
 
 // A text: the place of its item and that of its closing apostrophe.
@@ -47,17 +50,8 @@ pub struct Arguments {
     pub over: Fault,
     pub fault: Fault,
     pub values: [Value; 3],
-    pub worst: usize,
+    pub worst: Verdict,
     pub next: Option<usize>,
-}
-
-// What is left of an instruction that is refused.
-#[derive(Clone, Copy)]
-struct Left {
-    over: Fault,
-    count: usize,
-    worst: usize,
-    next: Option<usize>,
 }
 
 // What an item reads as: the set of its forms; and its own value as a text, a number, a class or an indexed letter, otherwise Nothing.
@@ -83,34 +77,6 @@ fn with_excess(over: Fault, more: bool, at: usize) -> Fault
     ensures { result ≡ with_excess over more at }
 {
     if more { lower(over, Some(at)) } else { over }
-}
-
-// What the items from `n` on have: how many arguments they are, those in excess, where `skip` are not; questions 14 to 16; and the end of the statement.
-// Here and in `read_arguments` each turn goes on behind the item that it read, so there is no range to run over.
-fn read_left(text: &[u8], n: usize, skip: usize, worst: usize) -> Left
-    requires { Leaves text.now n worst }
-    ensures { ReadsLeft text.now n skip worst result }
-{
-    let mut over = None;
-    let mut count: usize = 0;
-    let mut low = worst;
-    let mut i = n;
-    loop {
-        let t = next_item(text, i);
-        if stops(t.sort) {
-            return Left {
-                over,
-                count,
-                worst: low,
-                next: following(t),
-            };
-        }
-        let argument = !t.is(Sort::Colon);
-        over = with_excess(over, argument & (skip <= count), t.at);
-        count += usize::from(argument);
-        low = worse(low, t);
-        i = t.next;
-    }
 }
 
 // What a word reads as that is a name.
@@ -221,28 +187,54 @@ fn missing_or(op: u8, at: usize, count: usize, fault: Fault) -> Fault
     }
 }
 
-// Place `p` is at fault among the items from `i` on, which `place` arguments stand before; the operator stands at `at`.
+// Place `p` is at fault among the items from `n` on, which `place` arguments stand before; the operator stands at `at`. They are read to the end of the
+// statement: how many arguments they are, those in excess, and questions 14 to 16.
 // Seven parameters: a struct of them would be built for each of the three calls, and read once.
-fn refuse(text: &[u8], at: usize, op: u8, place: u8, i: usize, p: usize, worst: usize) -> Arguments
-    requires { Refusable text.now op place i worst }
-    ensures { Refuses text.now at op place i p worst result }
+// Here and in `read_arguments` each turn goes on behind the item that it read, so there is no range to run over.
+fn refuse(
+    text: &[u8],
+    at: usize,
+    op: u8,
+    place: u8,
+    n: usize,
+    p: usize,
+    worst: Verdict,
+) -> Arguments
+    requires { Refusable text.now op place n }
+    ensures { Refuses text.now at op place n p worst result }
 {
     let before = usize::from(place);
-    let left = read_left(text, i, usize::from(most(op)) - before, worst);
-    Arguments {
-        over: left.over,
-        fault: missing_or(op, at, before + left.count, Some(p)),
-        values: [no_value(); 3],
-        worst: left.worst,
-        next: left.next,
+    let skip = usize::from(most(op)) - before;
+    let mut over = None;
+    let mut count: usize = 0;
+    let mut low = worst;
+    let mut i = n;
+    loop {
+        let t = next_item(text, i);
+        if stops(t.sort) {
+            return Arguments {
+                over,
+                fault: missing_or(op, at, before + count, Some(p)),
+                values: [no_value(); 3],
+                worst: low,
+                next: following(t),
+            };
+        }
+        let argument = !t.is(Sort::Colon);
+        over = with_excess(over, argument & (skip <= count), t.at);
+        count += usize::from(argument);
+        low = worse(low, t);
+        i = t.next;
     }
 }
 
-// The arguments of the instruction with the operator `t` of a number, and its questions 01 and 02; `worst` is that of the items up to the operator.
-pub fn read_arguments(text: &[u8], t: Token, op: u8, worst: usize) -> Arguments
-    requires { Operates text.now t op worst }
-    ensures { ReadsArguments text.now t op worst result }
+// The arguments of the instruction with the operator `operator`, which is the token `t`, and its questions 01 and 02; `worst` is that of the items up to the
+// operator.
+pub fn read_arguments(text: &[u8], t: Token, operator: Operator, worst: Verdict) -> Arguments
+    requires { Operates text.now t }
+    ensures { ReadsArguments text.now t (number_of (op_by operator)) worst result }
 {
+    let op = u8::from(operator);
     let mut live = Live::Both;
     let mut place: u8 = 0;
     let mut values = [no_value(); 3];

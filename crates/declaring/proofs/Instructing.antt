@@ -34,7 +34,7 @@ use Rattle.writing.specs.Writing.{HoldsProgram, kept_arg, Changes, Writes, Instr
 use Rattle.writing.proofs.Adding.{kept_same}
 use Rattle.writing.proofs.Held.{code_count, label_count}
 use Rattle.argument_cells.specs.ArgumentCells.{RightArgument, Drafts, CellAsked, CellOf}
-use Rattle.declaring.specs.Declaring.{with_labels, labels_by, Labelling, Judges, JudgesValues, instr_excess, texts_excess, numbers_excess, with_values, draft_args, new_instr, with_labelled, RightValues, Writable, WritesValues, Declarable, DeclaresValues}
+use Rattle.declaring.specs.Declaring.{operator_number, with_labels, labels_by, Labelling, Judges, JudgesValues, instr_excess, texts_excess, numbers_excess, with_values, draft_args, new_instr, with_labelled, RightValues, Writable, WritesValues, Declarable, DeclaresValues}
 use Rattle.declaring.specs.declared.Instruction.{Instruction}
 
 -- ---- the instruction
@@ -67,7 +67,7 @@ module _ {s : List ℕ} {i : Instruction} {ms c : List ℕ} (pre : Writable s i 
   v = i.values
 
   abbrev number : ℕ
-  number = i.number
+  number = operator_number i
 
   pub labelling : {target : ℕ} → target ≡ cell (table_of c) 0 → Labelling s ms target c
   labelling e = record { named = pre.named; held = pre.held; room = pre.label_room; low = omega (arith, e, pre.code_room) }
@@ -138,14 +138,14 @@ pub some-by : {r : Fault} {b : Bool} → is_some r ≡ not b → b ≡ false →
 some-by e q f = true≢false (sym (e ∙ ap not q) ∙ ap is_some f)
 
 module _ {s : List ℕ} {i : Instruction} {ms c : List ℕ} (pre : Declarable s i ms c) where
-  valued : (n : ℕ) → RightValues s n i.number i.values → Valued s (statement_at s n) (arguments (operator_of i.number) (statement_at s n)) i.values
-  valued n g = g.read (operator_of i.number) g.numbered
+  valued : (n : ℕ) → RightValues s n (operator_number i) i.values → Valued s (statement_at s n) (arguments (operator_of (operator_number i)) (statement_at s n)) i.values
+  valued n g = g.read (operator_of (operator_number i)) g.numbered
 
   pub enterable : EnterableValues s i.values c
   enterable = record { items = _; args = _; valued = valued pre.next pre.values; short = pre.short; held = pre.held }
 
   module _ {r : Fault} {d : List ℕ} (told : JudgesValues s i.at i.values ms c r d) where
-    judges : (n : ℕ) → RightValues s n i.number i.values → Judges s i.at n ms c r d
+    judges : (n : ℕ) → RightValues s n (operator_number i) i.values → Judges s i.at n ms c r d
     judges n g = told n _ (valued n g)
 
     pub declared-none : {b : Bool} → is_some r ≡ not b → b ≡ false → DeclaresValues s i ms c r d

@@ -1,5 +1,9 @@
 -- Question 11 of an instruction from its parts: the lower fault of two rows of places.
 use mathlib.Core.Path.{◌≡◌, ◌∙◌}
+use mathlib.Core.Bool.{Bool, true, false}
+use lib.Dec.{leb}
+use borrow.Author.Tests.{leb-true, leb-false}
+use Rattle.std.specs.Bool.{then_some}
 use mathlib.Core.List.{List, [], ◌∷◌, ◌++◌, map}
 use Prim.Native.Nat.{ℕ, suc, ◌-◌, ◌≤◌, ◌<◌}
 use native.Mathlib.Omega.{arith}
@@ -41,12 +45,16 @@ pub labels-within : {c : List ℕ} (ms : List ℕ) (room : ℕ) {r : Fault} → 
 labels-within ms room e l f p h = f ∙ rw (← e p h, drop-map place_by room, drop_of_length-le ms l)
 
 -- one place more, within a limit and beyond it
-pub one-fits : (k n at : ℕ) → n < k → None ≡ fault_of (beyond k n (at ∷ []))
+one-fits : (k n at : ℕ) → n < k → None ≡ fault_of (beyond k n (at ∷ []))
 one-fits k n at l = let q : k - n ≡ suc (k - suc n) = omega arith in rw (q, drop-nil {A = ℕ} (k - suc n))
 
-pub one-over : (k n at : ℕ) → k ≤ n → Some at ≡ fault_of (beyond k n (at ∷ []))
+one-over : (k n at : ℕ) → k ≤ n → Some at ≡ fault_of (beyond k n (at ∷ []))
 unfolding lowest
 one-over k n at l = let q : k - n ≡ 0 = omega arith in rw q
+
+pub excess-told : (k n at : ℕ) (b : Bool) → leb k n ≡ b → then_some b at ≡ fault_of (beyond k n (at ∷ []))
+excess-told k n at true e = one-over k n at (leb-true k n e)
+excess-told k n at false e = one-fits k n at (leb-false k n e)
 
 -- ---- all of question 11
 

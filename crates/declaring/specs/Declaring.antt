@@ -5,8 +5,9 @@ use Rattle.argument_cells.specs.Below.Value.{Value}
 use Rattle.names.specs.Below.Drafting.{draft_arg}
 use Rattle.names.specs.Below.DraftsMarks.{place_by, length_by, word_by, Marked}
 use Rattle.argument_cells.specs.Below.Entering.{excess, all_added, long_text, large_number, set_texts, set_numbers, Held, ShortItem}
-use Rattle.language.specs.Instructions.{operation, operator_of}
+use Rattle.language.specs.Instructions.{operation, operator_of, number_of}
 use Rattle.language.specs.Limits as limit
+use Rattle.language.specs.Operators.{op_by}
 use Rattle.language.specs.Program.{Arg, Instr, Label, Program}
 use Rattle.language.specs.Values.{same_number}
 use Rattle.layout.specs.Bounds.{Each}
@@ -22,6 +23,10 @@ use Rattle.syntax.specs.Tables.{number_in}
 use Rattle.writing.specs.Writing.{HoldsProgram, kept_arg, label_of, with_instr}
 use Rattle.argument_cells.specs.ArgumentCells.{RightArgument}
 use Rattle.declaring.specs.declared.Instruction.{Instruction}
+
+-- the number of an instruction's operator
+abbrev pub operator_number : Instruction → ℕ
+operator_number i = number_of (op_by i.operator)
 
 -- labels come to a program
 unfoldable pub with_labels : List Label → Program → Program
@@ -109,7 +114,7 @@ pub record RightValues (s : List ℕ) (n number : ℕ) (v : List Value) : Type 0
 
 pub record Writable (s : List ℕ) (i : Instruction) (ms c : List ℕ) : Type 0 where
   pub next : ℕ
-  pub values : RightValues s next i.number i.values
+  pub values : RightValues s next (operator_number i) i.values
   pub held : Held c
   pub named : Named s ms
   pub code_room : cell (table_of c) 0 < limit.instructions
@@ -121,12 +126,12 @@ pub record WritesInstr (s : List ℕ) (n number line : ℕ) (ms c d : List ℕ) 
   pub beyond_same : drop limit.table d ≡ drop limit.table c
 
 abbrev pub WritesValues : List ℕ → Instruction → List ℕ → List ℕ → List ℕ → Type 0
-WritesValues s i ms c d = (n : ℕ) → RightValues s n i.number i.values → WritesInstr s n i.number i.line ms c d
+WritesValues s i ms c d = (n : ℕ) → RightValues s n (operator_number i) i.values → WritesInstr s n (operator_number i) i.line ms c d
 
 -- what the questions up to 02 gave, of an instruction whose items after the operator begin at `next`, and of the marks of its labels
 pub record Declarable (s : List ℕ) (i : Instruction) (ms c : List ℕ) : Type 0 where
   pub next : ℕ
-  pub values : RightValues s next i.number i.values
+  pub values : RightValues s next (operator_number i) i.values
   pub held : Held c
   pub line_most : i.line ≤ limit.text
   pub named : Named s ms
@@ -134,10 +139,10 @@ pub record Declarable (s : List ℕ) (i : Instruction) (ms c : List ℕ) : Type 
 
 pub record Declares (s : List ℕ) (i : Instruction) (n : ℕ) (ms c : List ℕ) (r : Fault) (d : List ℕ) : Type 0 where
   pub told : (p : Program) → HoldsProgram c p → r ≡ fault_of (instr_excess s i.at n ms p)
-  pub holds : r ≡ None → (p : Program) → HoldsProgram c p → KeptArgs s n i.number (with_values s n p)
-      → HoldsProgram d (with_labelled s n i.number i.line ms (with_values s n p))
+  pub holds : r ≡ None → (p : Program) → HoldsProgram c p → KeptArgs s n (operator_number i) (with_values s n p)
+      → HoldsProgram d (with_labelled s n (operator_number i) i.line ms (with_values s n p))
   pub beyond_same : drop limit.table d ≡ drop limit.table c
 
 -- wherever its items after the operator begin
 abbrev pub DeclaresValues : List ℕ → Instruction → List ℕ → List ℕ → Fault → List ℕ → Type 0
-DeclaresValues s i ms c r d = (n : ℕ) → RightValues s n i.number i.values → Declares s i n ms c r d
+DeclaresValues s i ms c r d = (n : ℕ) → RightValues s n (operator_number i) i.values → Declares s i n ms c r d

@@ -39,7 +39,7 @@ use Rattle.syntax.specs.Statements.{behind, operator, operator_at, rest}
 use Rattle.syntax.specs.Tables.{Tables, contents, new_texts, new_numbers, number_in, with_instr}
 use Rattle.writing.specs.Writing as writing
 use Rattle.writing.specs.Writing.{HoldsProgram, kept_arg}
-use Rattle.declaring.specs.Declaring.{with_labels, labels_by, with_values, instr_excess, with_labelled, Declares}
+use Rattle.declaring.specs.Declaring.{operator_number, with_labels, labels_by, with_values, instr_excess, with_labelled, Declares}
 use Rattle.declaring.specs.declared.Instruction.{Instruction}
 
 -- the statement x whose operator is the token o, with labels ls of the marks ms
@@ -112,12 +112,12 @@ arguments-kept n p args h = each-mapped (λ a. T (kept_arg p a)) draft_arg args 
 -- ---- the program of the tables
 
 module _ (lines : List ℕ) (t : Tables) (op : Op) (i : Instruction) {s : List ℕ} {ls x : List Item} {o : Token} {ms : List ℕ} (h : Operated s x o) (l : Labelled s ls ms)
-    (number_is : i.number ≡ (operation op).number) (at-is : i.at ≡ o.at) (line_is : i.line ≡ line_at lines o.at) where
+    (number_is : operator_number i ≡ (operation op).number) (at-is : i.at ≡ o.at) (line_is : i.line ≡ line_at lines o.at) where
   abbrev p : Program
   p = draft_program lines t
 
   abbrev number : ℕ
-  number = i.number
+  number = operator_number i
 
   abbrev line : ℕ
   line = i.line

@@ -11,15 +11,15 @@ ghost use Rattle.syntax.specs.Questions.{beyond};
 
 use argument_cells::argument_cell;
 use argument_cells::from_arguments::Value;
-use language::Machine;
+use language::{Machine, Operator};
 use names::lowest_mark;
 use statements::{Fault, lower};
 use table::Table;
 
-// An instruction: the number of its operator, where that stands and in which line, and its arguments.
+// An instruction: its operator, where that stands and in which line, and its arguments.
 #[derive(Clone, Copy)]
 pub struct Instruction {
-    pub number: u8,
+    pub operator: Operator,
     pub at: usize,
     pub line: usize,
     pub values: [Value; 3],
@@ -38,7 +38,7 @@ fn labels_beyond(table: Table, labels: &[u32]) -> Fault
 pub fn in_excess(count: usize, most: usize, at: usize) -> Fault
     ensures { result ≡ fault_of (beyond most count (at ∷ [])) }
 {
-    if count < most { None } else { Some(at) }
+    (most <= count).then_some(at)
 }
 
 // The operator's place, where the instruction is one in excess.
@@ -95,7 +95,7 @@ fn write_instruction(text: &[u8], i: Instruction, labels: &[u32], table: &mut [u
         argument_cell(text, second.argument, draft),
         argument_cell(text, third.argument, draft),
     ];
-    writing::put_instruction(table, usize::from(i.number), i.line, arguments);
+    writing::put_instruction(table, usize::from(u8::from(i.operator)), i.line, arguments);
 }
 
 // Question 11 of an instruction, and where it is answered yes, the instruction with its labels, of which the marks are lent.

@@ -61,8 +61,8 @@ with-both xs ys p = ap (λ (ws : List Switch). with_switches ws p) (last-twice x
 -- place k of the cells is reached
 pub record Filling (s : List ℕ) (d : Declaration) (c e : List ℕ) (k : ℕ) : Type 0 where
   pub from : cell (table_of c) 3 ≤ k
-  pub most : k ≤ cell (table_of c) 3 + d.words
-  pub holds : (p : Program) → HoldsProgram c p → KeptEntries p (list_entries s d.list) → HoldsProgram e (with_entries (take (k - cell (table_of c) 3) (list_entries s d.list)) p)
+  pub most : k ≤ cell (table_of c) 3 + d.list.words
+  pub holds : (p : Program) → HoldsProgram c p → KeptEntries p (list_entries s d.begin) → HoldsProgram e (with_entries (take (k - cell (table_of c) 3) (list_entries s d.begin)) p)
   pub beyond_same : drop 8192 e ≡ drop 8192 c
 
 module _ {s : List ℕ} {d : Declaration} {c : List ℕ} {tx : List (Option Quoted)} (pre : Listing s d c tx) where
@@ -76,13 +76,13 @@ module _ {s : List ℕ} {d : Declaration} {c : List ℕ} {tx : List (Option Quot
   rows = rows_in pre.list
 
   abbrev es : List Entry
-  es = list_entries s d.list
+  es = list_entries s d.begin
 
   pub held-is : held ≡ length (all_entries p₀)
   held-is = entry_count c p₀ pre.held.holds
 
-  entries-count : length es ≡ d.words
-  entries-count = ap length (entries-are (statement_at s d.list)) ∙ length-map rows row_entry ∙ rows_are pre.list
+  entries-count : length es ≡ d.list.words
+  entries-count = ap length (entries-are (statement_at s d.begin)) ∙ length-map rows row_entry ∙ rows_are pre.list
 
   pub filling-first : {k : ℕ} → k ≡ held → Filling s d c c k
   filling-first {k} e =
@@ -107,7 +107,7 @@ module _ {s : List ℕ} {d : Declaration} {c : List ℕ} {tx : List (Option Quot
     held-now : HoldsProgram e (now p₀)
     held-now = u.holds p₀ pre.held.holds pre.kept
 
-    module _ (more : k < held + d.words) where
+    module _ (more : k < held + d.list.words) where
       module _ {m : Option Quoted} (x : m ≡ get_or tx k None) where
         here : TextCell s m row
         here = cell-here pre.list u.from more (omega (arith, more, held-is, pre.room)) x
@@ -117,7 +117,7 @@ module _ {s : List ℕ} {d : Declaration} {c : List ℕ} {tx : List (Option Quot
 
         module _ {v : ℕ} (g : RowTold s m e v) where
           row_is : get_or es at (row_entry []) ≡ row_entry row
-          row_is = ap (λ (xs : List Entry). get_or xs at (row_entry [])) (entries-are (statement_at s d.list)) ∙ get_d-map-at row_entry rows at [] (row_entry []) (omega (arith, more, u.from, rows_are pre.list))
+          row_is = ap (λ (xs : List Entry). get_or xs at (row_entry [])) (entries-are (statement_at s d.begin)) ∙ get_d-map-at row_entry rows at [] (row_entry []) (omega (arith, more, u.from, rows_are pre.list))
 
           kept-now : (p : Program) → KeptEntries p es → KeptText (now p) (row_text row)
           unfolding with_entries
@@ -153,7 +153,7 @@ module _ {s : List ℕ} {d : Declaration} {c : List ℕ} {tx : List (Option Quot
                 beyond_same = w.beyond ∙ u.beyond_same;
               }
 
-    pub filled-all : held + d.words ≤ k → Lists s d c e
+    pub filled-all : held + d.list.words ≤ k → Lists s d c e
     filled-all done =
         record {
           holds = λ p h q. rw (take_all at es (omega (arith, done, entries-count))) at (u.holds p h q);

@@ -162,19 +162,19 @@ rows_short (j ∷ js) h =
 
 module _ {s : List ℕ} {d : Declaration} {c : List ℕ} {tx : List (Option Quoted)} (l : ListedSwitch s d c tx) where
   abbrev pub rows_in : List (List Item)
-  rows_in = entry_texts (statement_at s d.list)
+  rows_in = entry_texts (statement_at s d.begin)
 
-  pub rows_are : length rows_in ≡ d.words
-  rows_are = rows-count (statement_at s d.list) ∙ sym l.words_is
+  pub rows_are : length rows_in ≡ d.list.words
+  rows_are = rows-count (statement_at s d.begin) ∙ sym l.words_is
 
-  module _ {k : ℕ} (from : cell (table_of c) 3 ≤ k) (more : k < cell (table_of c) 3 + d.words) (room : k < 128) {m : Option Quoted} (x : m ≡ get_or tx k None) where
+  module _ {k : ℕ} (from : cell (table_of c) 3 ≤ k) (more : k < cell (table_of c) 3 + d.list.words) (room : k < 128) {m : Option Quoted} (x : m ≡ get_or tx k None) where
     pub cell-here : TextCell s m (get_or rows_in (k - cell (table_of c) 3) [])
     cell-here =
         let y : cell (table_of c) 3 + (k - cell (table_of c) 3) ≡ k = omega arith in
         rw x (rw y at (l.texts (k - cell (table_of c) 3) (omega (arith, rows_are)) (omega arith)))
 
     pub row_named : {e : List ℕ} → Held e → RowNamed s m e
-    row_named u = record { row = get_or rows_in (k - cell (table_of c) 3) []; named = cell-here; short = each_at (Each ShortItem) [] tt rows_in (rows_short (statement_at s d.list) l.short) (k - cell (table_of c) 3); held = u }
+    row_named u = record { row = get_or rows_in (k - cell (table_of c) 3) []; named = cell-here; short = each_at (Each ShortItem) [] tt rows_in (rows_short (statement_at s d.begin) l.short) (k - cell (table_of c) 3); held = u }
 
 -- ---- the part of the cells tx from place h, which is k, up to place e
 

@@ -108,16 +108,16 @@ module _ {s : List ℕ} {d : Declaration} {c sw : List ℕ} {tx : List (Option Q
         }
 
     module _ (x : r ≡ None) where
-      entered : HoldsProgram e (with_texts s d.list p)
+      entered : HoldsProgram e (with_texts s d.begin p)
       entered = h.holds x p pre.held.holds
 
-      rooms : (length p.switches < 32) × (length (all_entries p) + d.words ≤ 128)
+      rooms : (length p.switches < 32) × (length (all_entries p) + d.list.words ≤ 128)
       unfolding switch_excess
       rooms =
-          let ws = keep (is word) (statement_at s d.list) in
+          let ws = keep (is word) (statement_at s d.begin) in
           let ps = beyond 32 (length p.switches) (d.at ∷ []) in
           let qs = beyond 128 (length (all_entries p)) (places ws) in
-          let rs = texts_excess s d.list p in
+          let rs = texts_excess s d.begin p in
           let f = no-fault (ps ++ qs ++ rs) (sym (h.told p pre.held.holds) ∙ x) in
           let g = append-none ps qs (append-none (ps ++ qs) rs f).0 in (
             omega (arith, drop-none (32 - length p.switches) (d.at ∷ []) g.0),
@@ -133,8 +133,8 @@ module _ {s : List ℕ} {d : Declaration} {c sw : List ℕ} {tx : List (Option Q
       cells_same : (cell (table_of e) 2 ≡ cell (table_of c) 2) × (cell (table_of e) 3 ≡ cell (table_of c) 3)
       unfolding with_texts set_texts
       cells_same = (
-        switch_count e (with_texts s d.list p) entered ∙ sym (switch_count c p pre.held.holds),
-        entry_count e (with_texts s d.list p) entered ∙ sym (entry_count c p pre.held.holds),
+        switch_count e (with_texts s d.begin p) entered ∙ sym (switch_count c p pre.held.holds),
+        entry_count e (with_texts s d.begin p) entered ∙ sym (entry_count c p pre.held.holds),
       )
 
       pub switch-writable : WritableSwitch s d e sw tx
@@ -142,7 +142,7 @@ module _ {s : List ℕ} {d : Declaration} {c sw : List ℕ} {tx : List (Option Q
       switch-writable =
           record {
             list = same-list cells_same.1 pre.list;
-            held = record { program = with_texts s d.list p; holds = entered };
+            held = record { program = with_texts s d.begin p; holds = entered };
             switch_room = rooms.0;
             entry_room = rooms.1;
             kept = pre.kept;
@@ -153,7 +153,7 @@ module _ {s : List ℕ} {d : Declaration} {c sw : List ℕ} {tx : List (Option Q
       switch-declared w =
           record {
             told = λ y g. h.told y g;
-            holds = λ f y g k. w.holds (with_texts s d.list y) (h.holds x y g) k;
+            holds = λ f y g k. w.holds (with_texts s d.begin y) (h.holds x y g) k;
             switch_marks = λ f. w.switch_marks ∙ ap (λ (j : ℕ). set sw j d.name) cells_same.0;
             beyond_same = w.beyond_same ∙ h.beyond_same;
           }

@@ -156,12 +156,12 @@ low-lower p ps h = sym (fault-both (p ∷ []) ps) ∙ fault-first p ps h
 pub record Entering (s : List ℕ) (d : Declaration) (c e : List ℕ) (k : ℕ) : Type 0 where
   pub from : cell (table_of c) 3 ≤ k
   pub most : k ≤ 128
-  pub entered : (p : Program) → HoldsProgram c p → Entered (entry_texts (statement_at s d.list)) (drop (k - cell (table_of c) 3) (entry_texts (statement_at s d.list))) p e
+  pub entered : (p : Program) → HoldsProgram c p → Entered (entry_texts (statement_at s d.begin)) (drop (k - cell (table_of c) 3) (entry_texts (statement_at s d.begin))) p e
   pub beyond_same : drop 8192 e ≡ drop 8192 c
 
 module _ {s : List ℕ} {d : Declaration} {c : List ℕ} {tx : List (Option Quoted)} (pre : JudgeableSwitch s d c tx) where
   abbrev js : List Item
-  js = statement_at s d.list
+  js = statement_at s d.begin
 
   abbrev held : ℕ
   held = cell (table_of c) 3
@@ -176,13 +176,13 @@ module _ {s : List ℕ} {d : Declaration} {c : List ℕ} {tx : List (Option Quot
   held_most = omega (arith, entry_count c pre.held.program pre.held.holds, pre.held.holds.tabular.entries_most)
 
   rows-ordered : Ordered (texts_of rows)
-  rows-ordered = rw (texts-behind d.named js (statement-plain s d.list l.inside) l.right) at (ordered-keep (is text) js l.ordered)
+  rows-ordered = rw (texts-behind d.named js (statement-plain s d.begin l.inside) l.right) at (ordered-keep (is text) js l.ordered)
 
   -- the texts of the list are those of its rows
   long-here : keep long_text js ≡ keep long_text (texts_of rows)
-  long-here = long-behind d.named js (statement-plain s d.list l.inside) l.right
+  long-here = long-behind d.named js (statement-plain s d.begin l.inside) l.right
 
-  over-rows : (p : Program) → texts_excess s d.list p ≡ over_by p.texts rows
+  over-rows : (p : Program) → texts_excess s d.begin p ≡ over_by p.texts rows
   over-rows p = rw long-here
 
   all-rows : (p : Program) → all_added bytes_equal (λ i. i.chars) long_text p.texts js ≡ with_all p.texts rows
@@ -205,7 +205,7 @@ module _ {s : List ℕ} {d : Declaration} {c : List ℕ} {tx : List (Option Quot
     abbrev row : List Item
     row = get_or rows at []
 
-    module _ {end : ℕ} (g : end ≡ min (held + d.words) 128) (more : k < end) where
+    module _ {end : ℕ} (g : end ≡ min (held + d.list.words) 128) (more : k < end) where
       rest_is : drop at rows ≡ row ∷ drop (suc at) rows
       rest_is = drop-cons rows at [] (omega (arith, g, more, u.from, rows_are l))
 
@@ -234,28 +234,28 @@ module _ {s : List ℕ} {d : Declaration} {c : List ℕ} {tx : List (Option Quot
           text-refused q =
               record {
                 told = λ p w.
-                    ap (lower d.over)
+                    ap (lower d.list.over)
                     (sym (ap fault_of (over-rows p) ∙ refused-row (drop (suc at) rows) row (rw rest_is at (ordered-drop rows rows-ordered at)) (now p w) e' (subst (λ (o : Result (Unit {0}) ℕ). RowEnters row e o e') q (h.of row here))));
                 holds = λ o f. absurd (let y : ◌≡◌ {A = ℕ} 0 1 = cc in omega arith);
                 beyond_same = h.beyond_same ∙ u.beyond_same;
               }
 
-    module _ {end : ℕ} (g : end ≡ min (held + d.words) 128) (done : end ≤ k) where
-      count-over : length (places (keep (is word) js)) ≡ d.words
+    module _ {end : ℕ} (g : end ≡ min (held + d.list.words) 128) (done : end ≤ k) where
+      count-over : length (places (keep (is word) js)) ≡ d.list.words
       count-over = length-map (keep (is word) js) (λ (i : Item). i.at) ∙ sym l.words_is
 
-      none_left : d.over ≡ None → drop at rows ≡ []
+      none_left : d.list.over ≡ None → drop at rows ≡ []
       none_left o =
           let n = drop-none (128 - held) (places (keep (is word) js)) (no-fault (drop (128 - held) (places (keep (is word) js))) (sym l.over_is ∙ o)) in
           drop_of_length-le rows {i = at} (omega (arith, n, count-over, rows_are l, g, done, held_most))
 
-      told-by : (o : Fault) → d.over ≡ o → (p : Program) → HoldsProgram c p → lower o None ≡ lower o (fault_of (over_by p.texts rows))
+      told-by : (o : Fault) → d.list.over ≡ o → (p : Program) → HoldsProgram c p → lower o None ≡ lower o (fault_of (over_by p.texts rows))
       told-by None x p w =
           let v = u.entered p w in
           sym (ap fault_of (v.over_is ∙ ap (over_by v.table) (none_left x) ∙ no_texts v.table))
       told-by (Some q) x p w =
           let v = u.entered p w in
-          let many : 128 - held < d.words = elim (dec_lt (128 - held) d.words) as (λ y. 128 - held < d.words) [
+          let many : 128 - held < d.list.words = elim (dec_lt (128 - held) d.list.words) as (λ y. 128 - held < d.list.words) [
             | yes y ↦ y
             | no y ↦
                 let e : Some q ≡ None = sym x ∙ l.over_is ∙ ap fault_of (drop_of_length-le (places (keep (is word) js)) {i = 128 - held} (omega (arith, count-over))) in
@@ -270,7 +270,7 @@ module _ {s : List ℕ} {d : Declaration} {c : List ℕ} {tx : List (Option Quot
       unfolding with_texts
       texts-entered =
           record {
-            told = λ p w. told-by d.over refl p w ∙ ap (λ (ps : List ℕ). lower d.over (fault_of ps)) (sym (over-rows p));
+            told = λ p w. told-by d.list.over refl p w ∙ ap (λ (ps : List ℕ). lower d.list.over (fault_of ps)) (sym (over-rows p));
             holds = λ o f p w.
                 let v = u.entered p w in
                 let all : all_added bytes_equal (λ i. i.chars) long_text p.texts js ≡ v.table = all-rows p ∙ v.all_is ∙ ap (with_all v.table) (none_left o) ∙ no_more v.table in
@@ -281,19 +281,19 @@ module _ {s : List ℕ} {d : Declaration} {c : List ℕ} {tx : List (Option Quot
 -- ---- all of question 11
 
 pub judged-switch : {s : List ℕ} {d : Declaration} {c : List ℕ} {tx : List (Option Quoted)} → JudgeableSwitch s d c tx → {tr : Fault} {e : List ℕ} → EntersTexts s d c tr e → {a x y : Fault}
-    → SwitchTold c d.at a → x ≡ lower d.over tr → y ≡ lower a x → JudgesSwitch s d c y e
+    → SwitchTold c d.at a → x ≡ lower d.list.over tr → y ≡ lower a x → JudgesSwitch s d c y e
 unfolding switch_excess
 judged-switch {s} {d} {c} pre {tr} {e} t {a} {x} {y} h f g =
     record {
       told = λ p w.
           let ps = beyond 32 (length p.switches) (d.at ∷ []) in
-          let qs = beyond 128 (length (all_entries p)) (places (keep (is word) (statement_at s d.list))) in
-          let rs = texts_excess s d.list p in
-          let o : d.over ≡ fault_of qs = pre.list.over_is ∙ ap (λ (m : ℕ). fault_of (drop (128 - m) (places (keep (is word) (statement_at s d.list))))) (entry_count c p w) in
-          g ∙ ap (lower a) (f ∙ t.told p w) ∙ ap (λ (z : Fault). lower z (lower d.over (fault_of rs))) (h p w) ∙ ap (λ (z : Fault). lower (fault_of ps) (lower z (fault_of rs))) o
+          let qs = beyond 128 (length (all_entries p)) (places (keep (is word) (statement_at s d.begin))) in
+          let rs = texts_excess s d.begin p in
+          let o : d.list.over ≡ fault_of qs = pre.list.over_is ∙ ap (λ (m : ℕ). fault_of (drop (128 - m) (places (keep (is word) (statement_at s d.begin))))) (entry_count c p w) in
+          g ∙ ap (lower a) (f ∙ t.told p w) ∙ ap (λ (z : Fault). lower z (lower d.list.over (fault_of rs))) (h p w) ∙ ap (λ (z : Fault). lower (fault_of ps) (lower z (fault_of rs))) o
           ∙ sym (ap fault_of (append_assoc ps qs rs) ∙ fault-both ps (qs ++ rs) ∙ ap (lower (fault_of ps)) (fault-both qs rs));
       holds = λ q.
-          let k = lower-clear d.over tr (sym f ∙ (lower-clear a x (sym g ∙ q)).1) in
+          let k = lower-clear d.list.over tr (sym f ∙ (lower-clear a x (sym g ∙ q)).1) in
           t.holds k.0 k.1;
       beyond_same = t.beyond_same;
     }

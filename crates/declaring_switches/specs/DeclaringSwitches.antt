@@ -25,15 +25,15 @@ use Rattle.declaring_switches.specs.declared.Declaration.{Declaration}
 
 -- the list of the switch d, of which the questions up to 02 are answered yes: its words, and its texts by cells, as their reader told them
 pub record ListedSwitch (s : List ℕ) (d : Declaration) (c : List ℕ) (tx : List (Option Quoted)) : Type 0 where
-  pub inside : d.list ≤ length s
-  pub words_is : d.words ≡ length (keep (is word) (statement_at s d.list))
-  pub few : d.words ≤ limit.text
-  pub over_is : d.over ≡ fault_of (beyond limit.entries (cell (table_of c) 3) (places (keep (is word) (statement_at s d.list))))
-  pub texts : TextsNamed s d.list (cell (table_of c) 3) tx
+  pub inside : d.begin ≤ length s
+  pub words_is : d.list.words ≡ length (keep (is word) (statement_at s d.begin))
+  pub few : d.list.words ≤ limit.text
+  pub over_is : d.list.over ≡ fault_of (beyond limit.entries (cell (table_of c) 3) (places (keep (is word) (statement_at s d.begin))))
+  pub texts : TextsNamed s d.begin (cell (table_of c) 3) tx
   pub text_room : length tx ≡ limit.entries
-  pub ordered : Ordered (statement_at s d.list)
-  pub right : list_faults d.named false (statement_at s d.list) ≡ []
-  pub short : Each ShortItem (statement_at s d.list)
+  pub ordered : Ordered (statement_at s d.begin)
+  pub right : list_faults d.named false (statement_at s d.begin) ≡ []
+  pub short : Each ShortItem (statement_at s d.begin)
 
 -- 11, part by part
 abbrev pub SwitchTold : List ℕ → ℕ → Fault → Type 0
@@ -56,11 +56,11 @@ pub record JudgeableSwitch (s : List ℕ) (d : Declaration) (c : List ℕ) (tx :
 
 -- a text in excess behind an entry in excess is not told
 pub record EntersTexts (s : List ℕ) (d : Declaration) (c : List ℕ) (r : Fault) (c' : List ℕ) : Type 0 where
-  pub told : (p : Program) → HoldsProgram c p → lower d.over r ≡ lower d.over (fault_of (texts_excess s d.list p))
-  pub holds : d.over ≡ None → r ≡ None → (p : Program) → HoldsProgram c p → HoldsProgram c' (with_texts s d.list p)
+  pub told : (p : Program) → HoldsProgram c p → lower d.list.over r ≡ lower d.list.over (fault_of (texts_excess s d.begin p))
+  pub holds : d.list.over ≡ None → r ≡ None → (p : Program) → HoldsProgram c p → HoldsProgram c' (with_texts s d.begin p)
   pub beyond_same : drop limit.table c' ≡ drop limit.table c
 
 pub record JudgesSwitch (s : List ℕ) (d : Declaration) (c : List ℕ) (r : Fault) (c' : List ℕ) : Type 0 where
-  pub told : (p : Program) → HoldsProgram c p → r ≡ fault_of (switch_excess s d.at d.list p)
-  pub holds : r ≡ None → (p : Program) → HoldsProgram c p → HoldsProgram c' (with_texts s d.list p)
+  pub told : (p : Program) → HoldsProgram c p → r ≡ fault_of (switch_excess s d.at d.begin p)
+  pub holds : r ≡ None → (p : Program) → HoldsProgram c p → HoldsProgram c' (with_texts s d.begin p)
   pub beyond_same : drop limit.table c' ≡ drop limit.table c

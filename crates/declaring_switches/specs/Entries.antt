@@ -57,9 +57,9 @@ pub record Listing (s : List ℕ) (d : Declaration) (c : List ℕ) (tx : List (O
   pub list : ListedSwitch s d c tx
   pub held : Held c
   pub some : 0 < length held.program.switches
-  pub room : length (all_entries held.program) + d.words ≤ limit.entries
-  pub kept : KeptEntries held.program (list_entries s d.list)
+  pub room : length (all_entries held.program) + d.list.words ≤ limit.entries
+  pub kept : KeptEntries held.program (list_entries s d.begin)
 
 pub record Lists (s : List ℕ) (d : Declaration) (c c' : List ℕ) : Type 0 where
-  pub holds : (p : Program) → HoldsProgram c p → KeptEntries p (list_entries s d.list) → HoldsProgram c' (with_entries (list_entries s d.list) p)
+  pub holds : (p : Program) → HoldsProgram c p → KeptEntries p (list_entries s d.begin) → HoldsProgram c' (with_entries (list_entries s d.begin) p)
   pub beyond_same : drop limit.table c' ≡ drop limit.table c

@@ -23,12 +23,12 @@ pub record WritableSwitch (s : List ℕ) (d : Declaration) (c sw : List ℕ) (tx
   pub list : ListedSwitch s d c tx
   pub held : Held c
   pub switch_room : length held.program.switches < limit.switches
-  pub entry_room : length (all_entries held.program) + d.words ≤ limit.entries
-  pub kept : KeptEntries held.program (list_entries s d.list)
+  pub entry_room : length (all_entries held.program) + d.list.words ≤ limit.entries
+  pub kept : KeptEntries held.program (list_entries s d.begin)
   pub switch_marks : length sw ≡ limit.switches
 
 pub record WritesSwitch (s : List ℕ) (d : Declaration) (c sw c' sw' : List ℕ) : Type 0 where
-  pub holds : (p : Program) → HoldsProgram c p → KeptEntries p (list_entries s d.list) → HoldsProgram c' (with_list s d.list d.named p)
+  pub holds : (p : Program) → HoldsProgram c p → KeptEntries p (list_entries s d.begin) → HoldsProgram c' (with_list s d.begin d.named p)
   pub switch_marks : sw' ≡ set sw (cell (table_of c) 2) d.name
   pub beyond_same : drop limit.table c' ≡ drop limit.table c
 
@@ -36,13 +36,13 @@ pub record WritesSwitch (s : List ℕ) (d : Declaration) (c sw c' sw' : List ℕ
 pub record DeclarableSwitch (s : List ℕ) (d : Declaration) (c sw : List ℕ) (tx : List (Option Quoted)) : Type 0 where
   pub list : ListedSwitch s d c tx
   pub held : Held c
-  pub kept : KeptEntries (with_texts s d.list held.program) (list_entries s d.list)
+  pub kept : KeptEntries (with_texts s d.begin held.program) (list_entries s d.begin)
   pub switch_marks : length sw ≡ limit.switches
 
 -- question 11 is told; where it is answered yes, the switch and the mark of its name are there
 pub record DeclaresSwitch (s : List ℕ) (d : Declaration) (c sw : List ℕ) (r : Fault) (c' sw' : List ℕ) : Type 0 where
-  pub told : (p : Program) → HoldsProgram c p → r ≡ fault_of (switch_excess s d.at d.list p)
-  pub holds : r ≡ None → (p : Program) → HoldsProgram c p → KeptEntries (with_texts s d.list p) (list_entries s d.list)
-      → HoldsProgram c' (with_list s d.list d.named (with_texts s d.list p))
+  pub told : (p : Program) → HoldsProgram c p → r ≡ fault_of (switch_excess s d.at d.begin p)
+  pub holds : r ≡ None → (p : Program) → HoldsProgram c p → KeptEntries (with_texts s d.begin p) (list_entries s d.begin)
+      → HoldsProgram c' (with_list s d.begin d.named (with_texts s d.begin p))
   pub switch_marks : r ≡ None → sw' ≡ set sw (cell (table_of c) 2) d.name
   pub beyond_same : drop limit.table c' ≡ drop limit.table c

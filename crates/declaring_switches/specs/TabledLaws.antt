@@ -35,6 +35,7 @@ use Rattle.writing.specs.Writing.{HoldsProgram}
 use Rattle.writing.proofs.Growing.{each_snoc}
 use Rattle.writing.proofs.Held.{switch_count, entry_count}
 use Rattle.writing.proofs.Switching.{on_last-snoc}
+use Rattle.switch_lists.specs.declared.Listed.{Listed}
 use Rattle.declaring_switches.specs.DeclaringSwitches.{switch_excess, with_texts}
 use Rattle.declaring_switches.specs.Entries.{and_entries, with_entries, list_entries, KeptEntries}
 use Rattle.declaring_switches.specs.Switches.{with_list, DeclaresSwitch}
@@ -54,8 +55,8 @@ module _ (lines : List ℕ) (t : Tables) (b : Bool) (ls : List Item) {s : List �
   unfolding switch_excess switch_beyond draft_program
   excess-is = rw (length-map t.switches draft_switch, entry-words t.switches, h.operator_is, h.rest_is)
 
-  module _ {name words : ℕ} {over : Fault} {c sw : List ℕ} {r : Fault} {d sw' : List ℕ}
-      (u : DeclaresSwitch s (record { at = o.at; list = o.next; named = b; name = name; words = words; over = over }) c sw r d sw') where
+  module _ {name : ℕ} {l : Listed} {c sw : List ℕ} {r : Fault} {d sw' : List ℕ}
+      (u : DeclaresSwitch s (record { at = o.at; begin = o.next; named = b; name = name; list = l }) c sw r d sw') where
     -- question 11
     pub switch-told : HoldsProgram c p → r ≡ fault_of (switch_beyond t x)
     switch-told g = u.told p g ∙ ap fault_of excess-is

@@ -1,6 +1,7 @@
 // A judged statement with a switch comes to the program table: question 11, then its texts, the switch and its entries.
 #![tactic(auto)]
 
+ghost use Rattle.table.specs.Denote.{ref_number};
 ghost use Rattle.declaring_switches.specs.DeclaringSwitches.{SwitchTold, JudgeableSwitch, EntersTexts, JudgesSwitch};
 ghost use Rattle.declaring_switches.specs.Entries.{RowNamed, RowTold, RowEntered, Listing, Lists};
 ghost use Rattle.declaring_switches.specs.Switches.{WritableSwitch, WritesSwitch, DeclarableSwitch, DeclaresSwitch};
@@ -9,19 +10,19 @@ use declaring::from_arguments::Quoted;
 use declaring::{from_argument_cells, from_entering, in_excess};
 use language::Machine;
 use statements::{Fault, lower};
-use table::Table;
+use switch_lists::Listed;
+use table::{Table, TextRef};
 
-// A switch as its statement gives it: the place of its operator, the place where its list begins, whether it is NAZWA, the mark of its name, how many words its
-// list has and the first of them that is an entry in excess.
-// `words` and `over` are copied from `switch_lists::Listed`, whose other four fields are not asked for here.
+// A switch as its statement gives it: the place of its operator, the place where its list begins, whether it is NAZWA, the mark of its name, and what its
+// list has.
+// A flag, as `goes_by_name : Bool` is in the specification of a switch: no third type of switch is possible, and the table has the flag in a cell.
 #[derive(Clone, Copy)]
 pub struct Declaration {
     pub at: usize,
-    pub list: usize,
+    pub begin: usize,
     pub named: bool,
     pub name: u32,
-    pub words: usize,
-    pub over: Fault,
+    pub list: Listed,
 }
 
 // The operator's place, where the switch is one in excess.
@@ -52,7 +53,7 @@ fn enter_texts(text: &[u8], d: Declaration, table: &mut [u32], texts: &[Option<Q
     ensures { EntersTexts text.now d table.old result table.new }
 {
     let held = Table { cells: table }.entries();
-    let end = (held + d.words).min(Machine::ENTRIES);
+    let end = (held + d.list.words).min(Machine::ENTRIES);
     for entry in &texts[held..end] {
         if let Err(at) = enter_entry(text, *entry, table) {
             return Some(at);
@@ -66,20 +67,19 @@ fn judge_switch(text: &[u8], d: Declaration, table: &mut [u32], texts: &[Option<
     requires { JudgeableSwitch text.now d table.old texts.now }
     ensures { JudgesSwitch text.now d table.old result table.new }
 {
-    let over = d.over;
     let a = switch_beyond(Table { cells: table }, d.at);
     let b = enter_texts(text, d, table, texts);
-    lower(a, lower(over, b))
+    lower(a, lower(d.list.over, b))
 }
 
-// The reference of the text of an entry; 0 is that of none.
-fn entry_ref(text: &[u8], entry: Option<Quoted>, table: Table) -> usize
+// The reference of the text of an entry.
+fn entry_ref(text: &[u8], entry: Option<Quoted>, table: Table) -> TextRef
     requires { RowNamed text.now entry table.cells.now }
-    ensures { RowTold text.now entry table.entry.cells.now result }
+    ensures { RowTold text.now entry table.entry.cells.now (ref_number result) }
 {
     match entry {
         Some(q) => from_argument_cells::text_of(text, q, table),
-        None => 0,
+        None => TextRef::Empty,
     }
 }
 
@@ -89,7 +89,7 @@ fn put_entries(text: &[u8], d: Declaration, table: &mut [u32], texts: &[Option<Q
     ensures { Lists text.now d table.old table.new }
 {
     let held = Table { cells: table }.entries();
-    let end = held + d.words;
+    let end = held + d.list.words;
     for entry in &texts[held..end] {
         let v = entry_ref(text, *entry, Table { cells: table });
         writing::put_entry(table, 0, v);
@@ -108,10 +108,9 @@ fn write_switch(
     ensures { WritesSwitch text.now d table.old switches.old table.new switches.new }
 {
     let n = Table { cells: table }.switches();
-    let name = d.name;
     writing::put_switch(table, d.named);
     put_entries(text, d, table, texts);
-    switches[n] = name;
+    switches[n] = d.name;
 }
 
 // Question 11 of a switch, and where it is answered yes, the switch.

@@ -1,12 +1,12 @@
 -- One value comes to a table, unless it is there or the table is full: a text, or a number by its code.
 use mathlib.Core.Path.{◌≡◌, refl, sym, ap, ◌∙◌, subst}
-use mathlib.Core.Bool.{Bool, true, false, ◌&&◌, ◌||◌, true≢false}
+use mathlib.Core.Bool.{Bool, true, false, not, ◌&&◌, true≢false}
 use mathlib.Core.List.{List, [], ◌∷◌, ◌++◌}
 use Prim.Native.Nat.{ℕ, ◌≤◌, ◌<◌}
 use native.Mathlib.Omega.{arith}
 use lib.Dec.{ltb}
 use lib.ListN.{length, take, drop, length-take}
-use borrow.Author.Tests.{lt-ltb, le-ltb, le-leb, lt-leb, ltb-true, ltb-false}
+use borrow.Author.Tests.{lt-ltb, le-ltb, le-leb, lt-leb}
 use Rattle.arguments.specs.Valued.{is_text, text_from, text_to, NamesText, Spells, ItemValued, is_number}
 use Rattle.language.specs.Limits as limit
 use Rattle.language.specs.Program.{Program}
@@ -25,7 +25,8 @@ use Rattle.std.specs.Prelude.{Option, position, is_some}
 use Rattle.finding.proofs.Found.{some_any}
 use types.Run.{OneOf, miss}
 use lib.IntN.{ℤ, nat_abs}
-use Rattle.finding.proofs.References.{near, far-below, far-above}
+use Rattle.finding.proofs.References.{near, small-code, large-code}
+use Rattle.table.specs.Denote.{is_small}
 use Rattle.language.specs.Values.{same_number}
 use Rattle.layout.specs.Cells.{code}
 use Rattle.syntax.specs.Tables.{number_in}
@@ -147,13 +148,12 @@ pub value-text : {s : List ℕ} {x : ReadArgument} {c : List ℕ} → EnterableV
 value-text u e = record { item = u.item; text_is = value-is_text u.valued e; names = value-names u.valued e; short = u.short; held = u.held }
 
 -- ---- a number, by its code
-large_is : (z : ℤ) → nat_abs z ≤ limit.size → ltb limit.small (nat_abs z) ≡ (ltb (code z) 8388592 || ltb 8388622 (code z))
-large_is z h = go (ltb (code z) 8388592) (ltb 8388622 (code z)) refl refl
+large_is : (z : ℤ) → nat_abs z ≤ limit.size → ltb limit.small (nat_abs z) ≡ not (is_small (code z))
+large_is z h = go (is_small (code z)) refl
   where
-    go : (a b : Bool) → ltb (code z) 8388592 ≡ a → ltb 8388622 (code z) ≡ b → ltb limit.small (nat_abs z) ≡ (a || b)
-    go true b e f = lt-ltb limit.small (nat_abs z) (far-below z h (ltb-true (code z) 8388592 e))
-    go false true e f = lt-ltb limit.small (nat_abs z) (far-above z h (ltb-true 8388622 (code z) f))
-    go false false e f = le-ltb limit.small (nat_abs z) (near z h (ltb-false (code z) 8388592 e) (ltb-false 8388622 (code z) f))
+    go : (b : Bool) → is_small (code z) ≡ b → ltb limit.small (nat_abs z) ≡ not b
+    go true e = le-ltb limit.small (nat_abs z) (near z h (small-code (code z) e).0 (small-code (code z) e).1)
+    go false e = lt-ltb limit.small (nat_abs z) (large-code z h e)
 
 -- the number of a value
 module _ {s : List ℕ} {i : Item} {x : ReadArgument} (h : ItemValued s i x) where
@@ -170,19 +170,19 @@ module _ {s : List ℕ} {i : Item} {x : ReadArgument} (h : ItemValued s i x) whe
     coded : IsNumber v (number_in i) no_program
     coded = subst (Spells s i.chars) e h.spelt
 
-    module _ {r : Bool} (g : r ≡ (ltb v 8388592 || ltb 8388622 v)) where
-      is-large : large_number i ≡ r
+    module _ {r : Bool} (g : r ≡ is_small v) where
+      is-large : large_number i ≡ not r
       is-large =
           ap (λ (b : Bool). b && ltb limit.small (nat_abs (number_in i))) (h.number_is ∙ ap is_number e)
           ∙ large_is (number_in i) coded.small
-          ∙ ap (λ (n : ℕ). ltb n 8388592 || ltb 8388622 n) (sym coded.is) ∙ sym g
+          ∙ ap (λ (n : ℕ). not (is_small n)) (sym coded.is) ∙ sym (ap not g)
 
-      pub number_small : r ≡ false → {c : List ℕ} → OneNumber c true c
-      number_small q = past (is-large ∙ q)
+      pub number_small : r ≡ true → {c : List ℕ} → OneNumber c true c
+      number_small q = past (is-large ∙ ap not q)
 
-      pub number-entered : r ≡ true → {c : List ℕ} {a : Bool} {d : List ℕ} → AddsCode v c a d → OneNumber c a d
+      pub number-entered : r ≡ false → {c : List ℕ} {a : Bool} {d : List ℕ} → AddsCode v c a d → OneNumber c a d
       number-entered q k =
-          enters-value same_number number_in large_number (λ p. p.numbers) set_numbers numbers-laws i (is-large ∙ q) (number_in i) refl (k (number_in i) coded)
+          enters-value same_number number_in large_number (λ p. p.numbers) set_numbers numbers-laws i (is-large ∙ ap not q) (number_in i) refl (k (number_in i) coded)
 
 abbrev tag : ReadArgument → ℕ
 tag x = denote.Enum.Declared.tag_of Rattle.arguments.specs.contracts.ReadArgument.the_type x

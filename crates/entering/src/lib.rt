@@ -1,14 +1,14 @@
 // The texts and numbers of a statement come to the tables of a program that is being written: question 11 for them.
 #![tactic(auto)]
 
-ghost use Rattle.std.specs.Prelude.{◌≡◌, ◌||◌, ltb, length};
+ghost use Rattle.std.specs.Prelude.{length};
 ghost use Rattle.lists.specs.Lists.{bytes_equal};
 ghost use Rattle.entering.specs.Entering.{set_texts, Held, AddsCode, Addable, Adds, EnterableText, EnterableValue, EnterableValues, SomeValues, QuotedEntered, TextEntered, NumberEntered, TextsEntered, NumbersEntered};
 
 use arguments::{Quoted, ReadArgument, Value};
 use language::Machine;
 use statements::Fault;
-use table::Table;
+use table::{Table, is_small};
 
 // Adds a text, unless it is there; whether it is there then.
 fn add_text(table: &mut [u32], word: &[u8]) -> bool
@@ -41,13 +41,6 @@ fn add_number(table: &mut [u32], code: u32) -> bool
     }
     writing::put_number(table, code);
     true
-}
-
-// Whether the number of a code is beyond 15 in size.
-fn is_large(code: u32) -> bool
-    ensures { result ≡ (ltb code 8388592 || ltb 8388622 code) }
-{
-    !(8388592..=8388622).contains(&code)
 }
 
 // Adds a text, unless it has one character or none; whether it is there then.
@@ -94,7 +87,7 @@ fn enter_number_of(x: ReadArgument, table: &mut [u32]) -> bool
     ensures { NumberEntered x table.old result table.new }
 {
     match x {
-        ReadArgument::Number(code) => !is_large(code) || add_number(table, code),
+        ReadArgument::Number(code) => is_small(code) || add_number(table, code),
         _ => true,
     }
 }

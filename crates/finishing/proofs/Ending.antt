@@ -16,8 +16,7 @@ use Rattle.statements.specs.Faults.{decided, then}
 use Rattle.statements.specs.FaultLaws.{question-decides}
 use Rattle.statements.specs.Faults.{Verdict, verdict_of}
 use Rattle.layout.specs.Cells.{cell}
-use Rattle.linking.specs.Linking.{Kept, Linked, Links, last_two}
-use Rattle.linking.specs.declared.Missing.TheVariants.{Label, Switch}
+use Rattle.linking.specs.Linking.{Kept, Links, last_two}
 use Rattle.std.specs.Prelude.{Ok, Err}
 use Rattle.packed.specs.Packed.{table_of}
 use Rattle.progress.specs.Progress.{Drafted}
@@ -32,23 +31,11 @@ use Rattle.syntax.specs.Verdict as spec
 use Rattle.syntax.specs.Verdict.{ask, first_no}
 use Rattle.syntax.specs.Verdict.Verdict.{refuse}
 use Rattle.writing.proofs.Held.{code_count}
-use Rattle.finishing.specs.Finishing.{NamesLinked, Finishes}
-
--- ---- questions 12 and 13
+use Rattle.finishing.specs.Finishing.{Finishes}
 
 not_yes : {number at : ℕ} (v : Verdict) → verdict_of v ≡ refuse number at → v ≡ Ok tt → ⊥
 not_yes (Ok u) w e = let z : ◌≡◌ {A = ℕ} 0 1 = cc in omega arith
 not_yes (Err f) w e = let z : ◌≡◌ {A = ℕ} 0 1 = cc in omega arith
-
-module _ {s c sw en d : List ℕ} where
-  pub linked-done : {r : Linked} → r ≡ Ok tt → Links s c sw en r d → NamesLinked s c sw en (Ok tt) d
-  linked-done e h = record { verdict_is = λ lines t k. rw e at (h.verdict_is lines t k); holds = λ q. h.holds e; beyond = h.beyond }
-
-  pub linked-label : {r : Linked} (at : ℕ) → r ≡ Err (Label at) → Links s c sw en r d → (v : Verdict) → verdict_of v ≡ refuse 12 at → NamesLinked s c sw en v d
-  linked-label at e h v w = record { verdict_is = λ lines t k. w ∙ rw e at (h.verdict_is lines t k); holds = λ q. absurd (not_yes v w q); beyond = h.beyond }
-
-  pub linked-switch : {r : Linked} (at : ℕ) → r ≡ Err (Switch at) → Links s c sw en r d → (v : Verdict) → verdict_of v ≡ refuse 13 at → NamesLinked s c sw en v d
-  linked-switch at e h v w = record { verdict_is = λ lines t k. w ∙ rw e at (h.verdict_is lines t k); holds = λ q. absurd (not_yes v w q); beyond = h.beyond }
 
 -- ---- the draft as it is kept
 
@@ -115,7 +102,7 @@ module _ {s : List ℕ} {g : Progress} {ms c sw en : List ℕ} {last : ℕ} (l :
           beyond = refl;
         }
 
-    pub finished : f ≡ None → {r : Verdict} {c' : List ℕ} → NamesLinked s c sw en r c' → Finishes s g ms c sw en r c'
+    pub finished : f ≡ None → {r : Verdict} {c' : List ℕ} → Links s c sw en r c' → Finishes s g ms c sw en r c'
     finished e w =
         record {
           verdict_is = λ lines d h. w.verdict_is lines d.tables h.tabled ∙ sym (then-asked d h ∙ ap (λ (x : Fault). then (decided 25 x) (first_no (last_two d.tables))) e);

@@ -1,23 +1,15 @@
 -- What the end of a text asks and promises.
 use Rattle.std.specs.Prelude.{◌≡◌, Ok, List, ℕ, drop}
-use Rattle.drafts.specs.Tabled.{Tabled}
 use Rattle.statements.specs.Faults.{verdict_of}
 use Rattle.statements.specs.Faults.{Verdict}
 use Rattle.language.specs.Limits as limit
-use Rattle.linking.specs.Linking.{last_two}
 use Rattle.progress.specs.Progress.{Drafted}
 use Rattle.progress.specs.declared.Progress.{Progress}
 use Rattle.syntax.specs.Ending.{last_place, last_questions}
 use Rattle.syntax.specs.Load.{program_of}
-use Rattle.syntax.specs.Tables.{Tables, Draft}
+use Rattle.syntax.specs.Tables.{Draft}
 use Rattle.syntax.specs.Verdict.{first_no}
 use Rattle.writing.specs.Writing.{HoldsProgram}
-
--- the verdict of questions 12 and 13 is told; where it is yes, the cells d hold the program
-pub record NamesLinked (s c sw en : List ℕ) (r : Verdict) (d : List ℕ) : Type 0 where
-  pub verdict_is : (lines : List ℕ) (t : Tables) → Tabled s lines t c sw en → verdict_of r ≡ first_no (last_two t)
-  pub holds : r ≡ Ok tt → (lines : List ℕ) (t : Tables) → Tabled s lines t c sw en → HoldsProgram d (program_of lines t)
-  pub beyond : drop limit.table d ≡ drop limit.table c
 
 -- all statements of the text s were read
 pub record Finishable (s : List ℕ) (g : Progress) (ms c sw en : List ℕ) : Type 0 where

@@ -2,6 +2,7 @@
 use mathlib.Core.Path.{◌≡◌, refl, ap, sym, ◌∙◌}
 use mathlib.Core.Bool.{Bool, true, false, true≢false, not, ◌&&◌}
 use Rattle.std.specs.Prelude.{count_by, Result, Ok, Err, is_ok}
+use Rattle.std.specs.Result.{MatchResult}
 use Rattle.std.proofs.lemmas.Result.{IfOk-at_ok}
 use Rattle.language.specs.Operators.{op_by, Numbers}
 use Rattle.language.specs.declared.Operator.{Operator}
@@ -118,18 +119,27 @@ least-counted n h =
     (eqb→eq (needed n) (least_of n) (below (λ k. eqb (needed k) (least_of k)) 256 tt n h), leb→le (least_of n) 3 (below (λ k. leb (least_of k) 3) 256 tt n h))
 
 -- which instructions call, and which end
-pub called : {n : ℕ} {r : Result Operator NoOperator} {o : Operator} {b : Bool} → Numbers n r → r ≡ Ok o → b ≡ is_call (operation (op_by o)).flow → b ≡ calls n
+called : {n : ℕ} {r : Result Operator NoOperator} {o : Operator} {b : Bool} → Numbers n r → r ≡ Ok o → b ≡ is_call (operation (op_by o)).flow → b ≡ calls n
 unfolding calls
 called k e h = h ∙ sym (read-as k e false (λ x. is_call (operation x).flow))
 
-pub not_called : {n : ℕ} {r : Result Operator NoOperator} {w : NoOperator} → n < 256 → Numbers n r → r ≡ Err w → false ≡ calls n
+not_called : {n : ℕ} {r : Result Operator NoOperator} {w : NoOperator} → n < 256 → Numbers n r → r ≡ Err w → false ≡ calls n
 unfolding calls
 not_called h k e = sym (read-none h k e false (λ x. is_call (operation x).flow))
 
-pub ended : {n : ℕ} {r : Result Operator NoOperator} {o : Operator} {b : Bool} → Numbers n r → r ≡ Ok o → b ≡ is_end (operation (op_by o)).flow → b ≡ ends n
+ended : {n : ℕ} {r : Result Operator NoOperator} {o : Operator} {b : Bool} → Numbers n r → r ≡ Ok o → b ≡ is_end (operation (op_by o)).flow → b ≡ ends n
 unfolding ends
 ended k e h = h ∙ sym (read-as k e false (λ x. is_end (operation x).flow))
 
-pub not_ended : {n : ℕ} {r : Result Operator NoOperator} {w : NoOperator} → n < 256 → Numbers n r → r ≡ Err w → false ≡ ends n
+not_ended : {n : ℕ} {r : Result Operator NoOperator} {w : NoOperator} → n < 256 → Numbers n r → r ≡ Err w → false ≡ ends n
 unfolding ends
 not_ended h k e = sym (read-none h k e false (λ x. is_end (operation x).flow))
+
+-- the two by a test of what the number is read as
+pub calls_by : {n : ℕ} (r : Result Operator NoOperator) {b : Bool} → n < 256 → Numbers n r → MatchResult r (λ o. b ≡ is_call (operation (op_by o)).flow) (λ w. b ≡ false) → b ≡ calls n
+calls_by (Ok o) h k m = called k refl m
+calls_by (Err w) h k m = m ∙ not_called h k refl
+
+pub ends_by : {n : ℕ} (r : Result Operator NoOperator) {b : Bool} → n < 256 → Numbers n r → MatchResult r (λ o. b ≡ is_end (operation (op_by o)).flow) (λ w. b ≡ false) → b ≡ ends n
+ends_by (Ok o) h k m = ended k refl m
+ends_by (Err w) h k m = m ∙ not_ended h k refl

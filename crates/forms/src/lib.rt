@@ -278,7 +278,7 @@ impl Forms {
 }
 
 // Which of an instruction's lists take the arguments so far.
-#[derive(Clone, Copy, PartialEq, Eq)]
+#[derive(Clone, Copy, Debug, PartialEq, Eq)]
 pub enum Live {
     First,
     Second,
@@ -286,7 +286,7 @@ pub enum Live {
 }
 
 // The form that an argument is read by, and the lists that are left.
-#[derive(Clone, Copy, PartialEq, Eq)]
+#[derive(Clone, Copy, Debug, PartialEq, Eq)]
 pub struct Taken {
     pub form: Form,
     pub live: Live,
@@ -385,10 +385,7 @@ fn sets_by(op: u8, list: u8) -> Places
 fn at_place(p: Places, place: u8) -> Forms
     ensures { result.bits ≡ get_or (sets p) place 0 }
 {
-    match p.get(usize::from(place)) {
-        Some(set) => *set,
-        None => Forms::EMPTY,
-    }
+    p.get(usize::from(place)).copied().unwrap_or(Forms::EMPTY)
 }
 
 // The set of forms that an instruction's list, 0 or 1, has for a place from 0.
@@ -448,25 +445,17 @@ fn ending(op: Operator) -> bool
 }
 
 // Whether an instruction calls, by its operator's number.
-#[tactic(auto, using(crate::proofs::Tables::not_called))]
 pub fn is_call(op: u8) -> bool
     ensures { result ≡ calls op }
 {
-    match Operator::try_from(op) {
-        Ok(o) => calling(o),
-        Err(_) => false,
-    }
+    Operator::try_from(op).is_ok_and(calling)
 }
 
 // Whether it never goes on to the following one.
-#[tactic(auto, using(crate::proofs::Tables::not_ended))]
 pub fn is_end(op: u8) -> bool
     ensures { result ≡ ends op }
 {
-    match Operator::try_from(op) {
-        Ok(o) => ending(o),
-        Err(_) => false,
-    }
+    Operator::try_from(op).is_ok_and(ending)
 }
 
 // The forms that an argument shares with a set, where its list lives.

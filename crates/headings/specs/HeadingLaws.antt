@@ -1,5 +1,5 @@
 -- What follows SEKCJA, KONS or KONP, item by item, and what of it is at fault.
-use Rattle.std.specs.Prelude.{◌≡◌, Bool, cond, not, ◌&&◌, ◌||◌, ℕ, ◌+◌, ◌-◌, ◌≤◌, min, T, eqb, take, drop}
+use Rattle.std.specs.Prelude.{◌≡◌, Bool, cond, not, ◌&&◌, ◌||◌, ℕ, ◌+◌, ◌-◌, T, eqb, take, drop}
 use Rattle.std.proofs.Math.Path.{refl, sym, ap}
 use Rattle.std.proofs.Common.{◌∙◌, subst, true≢false, arith}
 use Rattle.std.proofs.Math.Bool.{true, false}
@@ -7,8 +7,8 @@ use mathlib.Core.List.{List, [], ◌∷◌, ◌++◌}
 use borrow.Author.Tests.{eq-eqb, ne_eqb, not-true, not-false}
 use Rattle.acceptance.proofs.ArgumentLaws.{word-apart}
 use Rattle.heads.specs.Below.DraftsMarks.{place_by, length_by, word_by}
-use Rattle.statements.specs.Checks.{clean, worst, token_code}
-use Rattle.statements.specs.CheckLaws.{worst-stop, worst-item}
+use Rattle.statements.specs.Checks.{worst, token_verdict}
+use Rattle.statements.specs.CheckLaws.{worst-stop, worst-item, worse-clear, worse_assoc}
 use Rattle.statements.specs.Faults.{lower}
 use Rattle.statements.specs.FaultLaws.{fault-both}
 use Rattle.heads.specs.Heads.{following, opens, head_keyword, Headed}
@@ -21,7 +21,7 @@ use Rattle.lists.specs.Lists.{filled, if_any, bytes_equal}
 use Rattle.statements.proofs.Ends.{Within, begins-within, still-within, ends-here, ends-then}
 use Rattle.statements.specs.StatementAt.{statement_at, stops, fault_of}
 use Rattle.statements.specs.StatementLaws.{at-stop, at_item}
-use Rattle.statements.specs.Faults.{Fault}
+use Rattle.statements.specs.Faults.{Fault, Verdict, worse}
 use Rattle.std.specs.Prelude.{Option, None, Some}
 use Rattle.std.specs.Option.{option_to_list}
 use Rattle.syntax.specs.Items.{Item, is, places}
@@ -51,43 +51,39 @@ first_place p ps = fault-both (p ∷ []) ps ∙ ap (λ (f : Fault). lower f (fau
 -- ---- from token to token
 
 -- place i is behind the item f of its statement; more and v tell the items between
-pub record Reading (s : List ℕ) (f : Token) (w : ℕ) (more : Fault) (v i : ℕ) : Type 0 where
+pub record Reading (s : List ℕ) (f : Token) (w : Verdict) (more : Fault) (v : Verdict) (i : ℕ) : Type 0 where
   pub within : Within s f.next i
   pub more_is : lower more (fault_of (places (statement_at s i))) ≡ fault_of (places (statement_at s f.next))
-  pub worst_is : min v (worst (statement_at s i)) ≡ min w (worst (statement_at s f.next))
-  pub coded : v ≤ clean
+  pub worst_is : worse v (worst (statement_at s i)) ≡ worse w (worst (statement_at s f.next))
 
-pub reads_first : {s : List ℕ} {f : Token} {w : ℕ} → Restable s f w → Reading s f w None w f.next
-reads_first h = record { within = begins-within h.stands.most; more_is = refl; worst_is = refl; coded = h.coded }
+pub reads_first : {s : List ℕ} {f : Token} {w : Verdict} → Restable s f → Reading s f w None w f.next
+reads_first h = record { within = begins-within h.stands.most; more_is = refl; worst_is = refl }
 
-module _ {s : List ℕ} {f : Token} {w : ℕ} {more : Fault} {v i : ℕ} {t : Token} (r : Reading s f w more v i) (k : NextToken s i t) where
+module _ {s : List ℕ} {f : Token} {w : Verdict} {more : Fault} {v : Verdict} {i : ℕ} {t : Token} (r : Reading s f w more v i) (k : NextToken s i t) where
   pub reads_end : stops t.sort ≡ true → {e : Option ℕ} → e ≡ following t → Tails s f w (record { first = Some f; more = more; worst = v; next = e })
   reads_end z q =
-      let c : v ≡ min v clean = omega (arith, r.coded) in
       record {
         first_is = refl;
         more_is = sym (lower-clear more) ∙ ap (λ (js : List Item). lower more (fault_of (places js))) (sym (at-stop k z)) ∙ r.more_is;
-        worst_is = c ∙ ap (min v) (sym (worst-stop k z)) ∙ r.worst_is;
+        worst_is = sym (worse-clear v) ∙ ap (worse v) (sym (worst-stop k z)) ∙ r.worst_is;
         ends = ended-by t (ends-here r.within k z) q;
       }
 
-  pub reads_on : stops t.sort ≡ false → {more' : Fault} {v' : ℕ} → more' ≡ lower more (Some t.at) → v' ≡ min v (token_code t) → Reading s f w more' v' t.next
+  pub reads_on : stops t.sort ≡ false → {more' : Fault} {v' : Verdict} → more' ≡ lower more (Some t.at) → v' ≡ worse v (token_verdict t) → Reading s f w more' v' t.next
   reads_on z {more'} {v'} e q =
       let js = statement_at s t.next in
-      let a : min v' (worst js) ≡ min v (min (token_code t) (worst js)) = omega (arith, q) in
       record {
         within = still-within r.within k z;
         more_is = ap (λ (g : Fault). lower g (fault_of (places js))) e
             ∙ lower-assoc more (Some t.at) (fault_of (places js))
             ∙ ap (lower more) (sym (first_place t.at (places js)) ∙ ap (λ (xs : List Item). fault_of (places xs)) (sym (at_item k z)))
             ∙ r.more_is;
-        worst_is = a ∙ ap (min v) (sym (worst-item k z)) ∙ r.worst_is;
-        coded = omega (arith, r.coded, q);
+        worst_is = ap (λ u. worse u (worst js)) q ∙ worse_assoc v (token_verdict t) (worst js) ∙ ap (worse v) (sym (worst-item k z)) ∙ r.worst_is;
       }
 
 -- ---- what follows an operator
 
-module _ {s : List ℕ} {t : Token} {w : ℕ} (h : Restable s t w) where
+module _ {s : List ℕ} {t : Token} {w : Verdict} (h : Restable s t) where
   pub rests-alone : stops t.sort ≡ true → Rests s t w (no_items t w)
   unfolding worst
   rests-alone z =
@@ -96,43 +92,39 @@ module _ {s : List ℕ} {t : Token} {w : ℕ} (h : Restable s t w) where
         low = tt;
         items = rw z refl;
         more_is = refl;
-        worst_is = rw z (omega (arith, h.coded));
+        worst_is = rw z (sym (worse-clear w));
         ends = λ n i w k. ended-by t (ends-here w k z) refl;
       }
 
   module _ (o : stops t.sort ≡ false) {f : Token} (k : NextToken s t.next f) where
-    first-low : f.at + f.len ≤ 32768
-    first-low = omega (arith, h.low, k.stands.own, k.stands.behind, k.stands.most)
-
     pub rests-empty : stops f.sort ≡ true → Rests s t w (no_items f w)
     rests-empty z =
-        let c : w ≡ min w clean = omega (arith, h.coded) in
         record {
           stands = tt;
           low = tt;
           items = rw o (sym (at-stop k z));
           more_is = refl;
-          worst_is = rw o (c ∙ ap (min w) (sym (worst-stop k z)));
+          worst_is = rw o (sym (worse-clear w) ∙ ap (worse w) (sym (worst-stop k z)));
           ends = λ n i w u. ended-by f (ends-then (still-within w u o) (ends-here (begins-within h.stands.most) k z)) refl;
         }
 
-    pub rests-some : stops f.sort ≡ false → {v : ℕ} → v ≡ min w (token_code f) → {r : Rest} → Tails s f v r → Rests s t w r
+    pub rests-some : stops f.sort ≡ false → {v : Verdict} → v ≡ worse w (token_verdict f) → {r : Rest} → Tails s f v r → Rests s t w r
     rests-some z {v} e {r} u =
         let js = statement_at s f.next in
-        let a : r.worst ≡ min w (min (token_code f) (worst js)) = omega (arith, e, u.worst_is) in
+        let a : r.worst ≡ worse w (worse (token_verdict f) (worst js)) = u.worst_is ∙ ap (λ u. worse u (worst js)) e ∙ worse_assoc w (token_verdict f) (worst js) in
         subst (λ (x : Option Token). Rests s t w (record { first = x; more = r.more; worst = r.worst; next = r.next })) (sym u.first_is)
         (record {
           stands = k.stands;
-          low = first-low;
+          low = omega (arith, h.low, k.stands.own, k.stands.behind, k.stands.most);
           items = rw o (sym (at_item k z));
           more_is = u.more_is;
-          worst_is = rw o (a ∙ ap (min w) (sym (worst-item k z)));
+          worst_is = rw o (a ∙ ap (worse w) (sym (worst-item k z)));
           ends = λ n i w y. ended-on (λ d b e. ends-then (still-within w y o) (ends-then (still-within (begins-within h.stands.most) k z) e)) u.ends;
         })
 
 -- ---- one name
 
-module _ {s : List ℕ} {t : Token} {w : ℕ} {r : Rest} (k : Rests s t w r) where
+module _ {s : List ℕ} {t : Token} {w : Verdict} {r : Rest} (k : Rests s t w r) where
   pub name-told : (q : List ℕ → Bool) (at : ℕ) {right : Bool} → right ≡ right_first s q r.first → name_fault r at right ≡ fault_of (one_name q at (follows s t))
   unfolding one_name
   name-told q at {right} e = go r.first k.more_is e ∙ ap (λ (xs : List Item). fault_of (one_name q at xs)) k.items
@@ -233,7 +225,7 @@ module _ {s : List ℕ} {n : ℕ} {h : Head} (g : Headed s n h) where
   pub after-other : (section : Option ℕ) → is_konp (head_keyword h) ≡ false → is_kons (head_keyword h) ≡ false → AfterTold s n section None
   after-other section a b = sym (rw (konp-told ∙ a, kons-told ∙ b) refl)
 
-  module _ {w : ℕ} {r : Rest} (k : Rests s h.op w r) where
+  module _ {w : Verdict} {r : Rest} (k : Rests s h.op w r) where
     pub after-konp : (section : Option ℕ) {right : Bool} {f : Fault} → is_konp (head_keyword h) ≡ true → right ≡ right_first s (bytes_equal (name_by s section)) r.first
         → f ≡ name_fault r h.op.at right → AfterTold s n section f
     after-konp section a e q =
@@ -295,7 +287,7 @@ module _ {s : List ℕ} {n : ℕ} {h : Head} (g : Headed s n h) where
       pub first-wrong : opens (head_keyword h) ≡ false → Some h.op.at ≡ fault_of (first_faults x)
       first-wrong o = fault-one h.op.at ∙ sym (ap fault_of (by_keyword false o))
 
-      pub first-named : opens (head_keyword h) ≡ true → {w : ℕ} {r : Rest} → Rests s h.op w r → {right : Bool} {f : Fault} → right ≡ right_first s identifier r.first
+      pub first-named : opens (head_keyword h) ≡ true → {w : Verdict} {r : Rest} → Rests s h.op w r → {right : Bool} {f : Fault} → right ≡ right_first s identifier r.first
           → f ≡ name_fault r h.op.at right → f ≡ fault_of (first_faults x)
       first-named o k u q =
           q

@@ -1,9 +1,8 @@
 -- What follows SEKCJA, KONS or KONP, and what the functions on it ask and promise.
-use Rattle.std.specs.Prelude.{◌≡◌, Bool, true, false, cond, ◌&&◌, List, [], ◌∷◌, ℕ, ◌+◌, ◌≤◌, min, length, drop}
+use Rattle.std.specs.Prelude.{◌≡◌, Bool, true, false, cond, ◌&&◌, List, [], ◌∷◌, ℕ, ◌+◌, ◌≤◌, length, drop}
 use Rattle.heads.specs.Below.DraftsMarks.{mark_of, word_by, Marked}
 use Rattle.statements.proofs.Ends.{Within}
-use Rattle.statements.specs.Checks.{clean, worst}
-use Rattle.statements.specs.Faults.{lower}
+use Rattle.statements.specs.Checks.{worst}
 use Rattle.heads.specs.Heads.{following, EndedBy, by_kind, Headed}
 use Rattle.heads.specs.declared.Head.{Head}
 use Rattle.language.specs.Limits as limit
@@ -11,7 +10,7 @@ use Rattle.lexer.specs.Tokens.{item_of, chars_of, Stands, NextToken}
 use Rattle.lexer.specs.declared.Token.{Token}
 use Rattle.lists.specs.Lists.{bytes_equal}
 use Rattle.statements.specs.StatementAt.{statement_at, stops, fault_of}
-use Rattle.statements.specs.Faults.{Fault}
+use Rattle.statements.specs.Faults.{Fault, Verdict, lower, worse}
 use Rattle.std.specs.Prelude.{Option, None, Some}
 use Rattle.syntax.specs.Items.{Item, is, places}
 use Rattle.syntax.specs.Items.Sort.{word}
@@ -31,19 +30,18 @@ is_konp k = by_kind false false false true (λ goes_by_name. false) (λ o. false
 abbrev pub follows : List ℕ → Token → List Item
 follows s t = cond (stops t.sort) [] (statement_at s t.next)
 
-abbrev pub no_items : Token → ℕ → Rest
+abbrev pub no_items : Token → Verdict → Rest
 no_items t w = record { first = None; more = None; worst = w; next = following t }
 
-pub record Restable (s : List ℕ) (t : Token) (w : ℕ) : Type 0 where
+pub record Restable (s : List ℕ) (t : Token) : Type 0 where
   pub low : length s ≤ limit.text
   pub stands : Stands s t
-  pub coded : w ≤ clean
 
 -- the items of a statement from the item f on
-pub record Tails (s : List ℕ) (f : Token) (w : ℕ) (r : Rest) : Type 0 where
+pub record Tails (s : List ℕ) (f : Token) (w : Verdict) (r : Rest) : Type 0 where
   pub first_is : r.first ≡ Some f
   pub more_is : r.more ≡ fault_of (places (statement_at s f.next))
-  pub worst_is : r.worst ≡ min w (worst (statement_at s f.next))
+  pub worst_is : r.worst ≡ worse w (worst (statement_at s f.next))
   pub ends : EndedBy s f.next r.next
 
 -- where the first item stands, if there is one; the items from it on; and its mark
@@ -65,12 +63,12 @@ mark_first (Some f) = Some (mark_of f.at f.len)
 
 -- What follows t: the items, of which all but the first are told by the lowest place; questions 14, 15 and 16 of them and of those before; and the end
 -- of the statement
-pub record Rests (s : List ℕ) (t : Token) (w : ℕ) (r : Rest) : Type 0 where
+pub record Rests (s : List ℕ) (t : Token) (w : Verdict) (r : Rest) : Type 0 where
   pub stands : FirstIn s r.first
   pub low : FirstLow r.first
   pub items : from_first s r.first ≡ follows s t
   pub more_is : r.more ≡ fault_of (places (drop 1 (from_first s r.first)))
-  pub worst_is : r.worst ≡ min w (worst (follows s t))
+  pub worst_is : r.worst ≡ worse w (worst (follows s t))
   pub ends : (n i : ℕ) → Within s n i → NextToken s i t → EndedBy s n r.next
 
 -- "`KEYWORD name`" by its first item, which is the right one or not, and what comes after it
@@ -100,7 +98,7 @@ pub record Nameable (s : List ℕ) (first : Option Token) (m : Option ℕ) : Typ
 
 -- 00
 abbrev pub FirstTold : List ℕ → Head → Rest → Fault → Type 0
-FirstTold s h r f = (n w : ℕ) → Headed s n h → Rests s h.op w r → f ≡ fault_of (first_faults (statement_at s n))
+FirstTold s h r f = (n : ℕ) (w : Verdict) → Headed s n h → Rests s h.op w r → f ≡ fault_of (first_faults (statement_at s n))
 
 -- 25: "`KONS`, then `KONP` and the same name": what follows either
 abbrev pub after_faults : List ℕ → List Item → List ℕ
@@ -112,4 +110,4 @@ abbrev pub AfterTold : List ℕ → ℕ → Option ℕ → Fault → Type 0
 AfterTold s n section f = f ≡ fault_of (after_faults (name_by s section) (statement_at s n))
 
 abbrev pub FollowsTold : List ℕ → Head → Rest → Option ℕ → Fault → Type 0
-FollowsTold s h r section f = (n w : ℕ) → Headed s n h → Rests s h.op w r → AfterTold s n section f
+FollowsTold s h r section f = (n : ℕ) (w : Verdict) → Headed s n h → Rests s h.op w r → AfterTold s n section f

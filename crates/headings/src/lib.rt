@@ -9,7 +9,7 @@ ghost use Rattle.headings.specs.Headings.{is_kons, is_konp, Tails, no_items, Res
 use heads::{Head, following, is_name, mark, opens};
 use lexer::{Token, next_item};
 use scanner::Sort;
-use statements::{Fault, lower, stops, worse};
+use statements::{Fault, Verdict, lower, stops, worse};
 use words::Keyword;
 
 // The first item, if there is one; the place of an item after it; questions 14, 15 and 16 of all items so far; where the next statement begins, unless
@@ -18,7 +18,7 @@ use words::Keyword;
 pub struct Rest {
     pub first: Option<Token>,
     pub more: Fault,
-    pub worst: usize,
+    pub worst: Verdict,
     pub next: Option<usize>,
 }
 
@@ -38,8 +38,8 @@ pub fn is_konp(k: Option<Keyword>) -> bool
 
 // The items of a statement from its item `first` on.
 // Each turn goes on behind the item that it read, so there is no range to run over.
-fn read_tail(text: &[u8], first: Token, worst: usize) -> Rest
-    requires { Restable text.now first worst }
+fn read_tail(text: &[u8], first: Token, worst: Verdict) -> Rest
+    requires { Restable text.now first }
     ensures { Tails text.now first worst result }
 {
     let mut more = None;
@@ -62,7 +62,7 @@ fn read_tail(text: &[u8], first: Token, worst: usize) -> Rest
 }
 
 // No items before the token that ends the statement.
-fn no_items(t: Token, worst: usize) -> Rest
+fn no_items(t: Token, worst: Verdict) -> Rest
     ensures { result ≡ no_items t worst }
 {
     Rest {
@@ -74,8 +74,8 @@ fn no_items(t: Token, worst: usize) -> Rest
 }
 
 // What follows the token `t`: the operator of a statement, or what ends it.
-pub fn read_rest(text: &[u8], t: Token, worst: usize) -> Rest
-    requires { Restable text.now t worst }
+pub fn read_rest(text: &[u8], t: Token, worst: Verdict) -> Rest
+    requires { Restable text.now t }
     ensures { Rests text.now t worst result }
 {
     if stops(t.sort) {

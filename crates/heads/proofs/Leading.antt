@@ -2,21 +2,21 @@
 use mathlib.Core.Path.{◌≡◌, refl, ap, sym, ◌∙◌}
 use mathlib.Core.Bool.{Bool, true, false, cond, not, ◌&&◌, false≢true}
 use mathlib.Core.List.{List, [], ◌∷◌, ◌++◌}
-use Prim.Native.Nat.{ℕ, ◌≤◌, ◌<◌, min}
+use Prim.Native.Nat.{ℕ, ◌≤◌, ◌<◌}
 use native.Mathlib.Omega.{arith}
 use lib.Dec.{eqb}
 use lib.ListN.{length, take}
 use borrow.Author.Tests.{eq-eqb, ne_eqb, eqb-true, eqb-false}
-use Rattle.statements.specs.Checks.{clean, item_code, worst, token_code}
-use Rattle.statements.specs.CheckLaws.{token-coded, worst-low}
+use Rattle.statements.specs.Checks.{item_verdict, worst, token_verdict}
+use Rattle.statements.specs.CheckLaws.{token-told, worse-clear, worse_assoc}
 use Rattle.statements.specs.FaultLaws.{fault-both}
 use Rattle.statements.specs.Faults.{lower}
 use Rattle.lists.specs.Lists.{filled, if_any, keep}
 use Rattle.lexer.specs.declared.Token.{Token}
 use Rattle.lexer.specs.Tokens.{item_of, NextToken}
 use Rattle.statements.proofs.Ends.{Within, begins-within, still-within}
-use Rattle.statements.specs.Faults.{Fault}
-use Rattle.std.specs.Prelude.{Option, None, Some}
+use Rattle.statements.specs.Faults.{Fault, Verdict, worse}
+use Rattle.std.specs.Prelude.{Option, None, Some, Ok}
 use Rattle.statements.specs.StatementAt.{statement_at, stops, fault_of}
 use Rattle.statements.specs.StatementLaws.{goes, at-stop, at_item, on}
 use Rattle.scanner.specs.Below.Items.{Item, is, places}
@@ -48,7 +48,7 @@ name_fault-goes i js = go (is_name i)
     go false = fault-both (i.at ∷ []) (name_faults js)
 
 -- what is known of an operator, or of none
-known-keyword : (k : Option Keyword) (e : Edition) → keyword_known (known_by k e) ≡ k
+known-keyword : (k : Option Keyword) (e : Option Edition) → keyword_known (known_by k e) ≡ k
 known-keyword None e = refl
 known-keyword (Some k) e = refl
 
@@ -75,30 +75,28 @@ record Begun (s : List ℕ) (n i f : ℕ) : Type 0 where
   low : f < i
 
 -- Place i is still in front of the operator of the statement at n
-pub record Leading (s : List ℕ) (n i f : ℕ) (fault : Fault) (w : ℕ) : Type 0 where
+pub record Leading (s : List ℕ) (n i f : ℕ) (fault : Fault) (w : Verdict) : Type 0 where
   within : Within s n i
   begun : (i ≡ n → ⊥) → Begun s n i f
   operator_is : behind (statement_at s n) ≡ behind (statement_at s i)
   faults : fault_of (name_faults (front (statement_at s n))) ≡ lower fault (fault_of (name_faults (front (statement_at s i))))
-  low : w ≤ clean
-  worsts : worst (front (statement_at s n) ++ operator (statement_at s n)) ≡ min w (worst (front (statement_at s i) ++ operator (statement_at s i)))
+  worsts : worst (front (statement_at s n) ++ operator (statement_at s n)) ≡ worse w (worst (front (statement_at s i) ++ operator (statement_at s i)))
 
 pub no_front : {y : List Item} → y ≡ [] → front y ≡ []
 unfolding front
 no_front e = ap front e
 
-pub leading-first : {s : List ℕ} {n : ℕ} → n ≤ length s → Leading s n n n None clean
+pub leading-first : {s : List ℕ} {n : ℕ} → n ≤ length s → Leading s n n n None (Ok tt)
 leading-first {s} {n} h =
     record {
       within = begins-within h;
       begun = λ q. absurd (q refl);
       operator_is = refl;
       faults = refl;
-      low = omega arith;
-      worsts = let k = worst-low (front (statement_at s n) ++ operator (statement_at s n)) in omega arith;
+      worsts = refl;
     }
 
-module _ {s : List ℕ} {n i f w : ℕ} {fault : Fault} {t : Token} (l : Leading s n i f fault w) (k : NextToken s i t) {b : Bool} (b_is : b ≡ eqb i n) {f' : ℕ}
+module _ {s : List ℕ} {n i f : ℕ} {w : Verdict} {fault : Fault} {t : Token} (l : Leading s n i f fault w) (k : NextToken s i t) {b : Bool} (b_is : b ≡ eqb i n) {f' : ℕ}
     (f_is : f' ≡ cond b t.at f) where
   abbrev x : List Item
   x = statement_at s n
@@ -126,7 +124,7 @@ module _ {s : List ℕ} {n i f w : ℕ} {fault : Fault} {t : Token} (l : Leading
 
   -- nothing more stands in front: the token t is the operator or ends the statement
   headed : front (statement_at s i) ≡ [] → behind (statement_at s i) ≡ from_token s t → {v : Option Known} → v ≡ if_any None known_item (from_token s t)
-      → {c u : ℕ} → u ≡ min w (worst (take 1 (from_token s t)))
+      → {c : ℕ} {u : Verdict} → u ≡ worse w (worst (take 1 (from_token s t)))
       → Headed s n (head_with f' fault c u t v)
   unfolding keyword_in
   headed none own v-is u-is =
@@ -142,15 +140,15 @@ module _ {s : List ℕ} {n i f w : ℕ} {fault : Fault} {t : Token} (l : Leading
         first_is = (firsts none).0;
         front_is = (firsts none).1;
         fault_is = sym (l.faults ∙ ap (λ y. lower fault (fault_of (name_faults y))) none ∙ lower-clear fault);
-        worst_is = u-is ∙ sym (l.worsts ∙ ap (λ y. min w (worst (y ++ operator (statement_at s i)))) none ∙ ap (λ y. min w (worst (take 1 y))) own);
+        worst_is = u-is ∙ sym (l.worsts ∙ ap (λ y. worse w (worst (y ++ operator (statement_at s i)))) none ∙ ap (λ y. worse w (worst (take 1 y))) own);
       }
 
   pub no-head : {c : ℕ} → stops t.sort ≡ true
       → Headed s n (head_with f' fault c w t None)
   unfolding behind worst
-  no-head z = let h = l.low in headed (no_front (at-stop k z)) (rw (at-stop k z, z) refl) (rw z refl) (rw z (omega arith))
+  no-head z = headed (no_front (at-stop k z)) (rw (at-stop k z, z) refl) (rw z refl) (rw z (sym (worse-clear w)))
 
-  module _ (z : stops t.sort ≡ false) {w' : ℕ} (w-is : w' ≡ min w (token_code t)) where
+  module _ (z : stops t.sort ≡ false) {w' : Verdict} (w-is : w' ≡ worse w (token_verdict t)) where
     abbrev it : Item
     it = item_of s t
 
@@ -159,10 +157,8 @@ module _ {s : List ℕ} {n i f w : ℕ} {fault : Fault} {t : Token} (l : Leading
     unfolding worst
     head-here o v-is =
         let op_is : is_operator it ≡ true = operator_is s t ∙ o in
-        let h = l.low in
-        let e : min w (token_code t) ≡ min w (min (token_code t) clean) = omega arith in
         headed (ap front (at_item k z) ∙ front_ends it js op_is) (rw z (ap behind (at_item k z) ∙ behind-here it js op_is)) (rw z v-is)
-        (rw z (w-is ∙ e ∙ ap (λ m. min w (min m clean)) (token-coded k.stands)))
+        (rw z (w-is ∙ ap (worse w) (sym (worse-clear (token_verdict t)) ∙ ap (λ v. worse v (Ok tt)) (token-told k.stands))))
 
     module _ (o : operates t ≡ false) where
       op-no : is_operator it ≡ false
@@ -186,12 +182,12 @@ module _ {s : List ℕ} {n i f w : ℕ} {fault : Fault} {t : Token} (l : Leading
               let u = l.begun (eqb-false i n (sym e)) in
               record { ahead = u.ahead; first = rw g u.first; low = omega (arith, g, u.low, on k z) }
 
-      worst-goes : worst (front (statement_at s i) ++ operator (statement_at s i)) ≡ min (token_code t) (worst (front js ++ operator js))
+      worst-goes : worst (front (statement_at s i) ++ operator (statement_at s i)) ≡ worse (token_verdict t) (worst (front js ++ operator js))
       unfolding worst
       worst-goes =
           ap (λ y. worst (y ++ operator (statement_at s i))) front-some
-          ∙ ap (λ y. min (item_code it) (worst (front js ++ take 1 y))) behind-some
-          ∙ ap (λ m. min m (worst (front js ++ operator js))) (sym (token-coded k.stands))
+          ∙ ap (λ y. worse (item_verdict it) (worst (front js ++ take 1 y))) behind-some
+          ∙ ap (λ v. worse v (worst (front js ++ operator js))) (sym (token-told k.stands))
 
       pub still-leading : {fault' : Fault} → fault' ≡ lower fault (own_fault it) → Leading s n t.next f' fault' w'
       still-leading {fault'} g =
@@ -205,7 +201,6 @@ module _ {s : List ℕ} {n i f w : ℕ} {fault : Fault} {t : Token} (l : Leading
                 ∙ ap (lower fault) (name_fault-goes it (front js))
                 ∙ sym (lower-assoc fault (own_fault it) (fault_of (name_faults (front js))))
                 ∙ ap (λ a. lower a (fault_of (name_faults (front js)))) (sym g);
-            low = let h = l.low in omega arith;
             worsts =
-                l.worsts ∙ ap (min w) worst-goes ∙ (omega (arith, w-is));
+                l.worsts ∙ ap (worse w) worst-goes ∙ sym (worse_assoc w (token_verdict t) (worst (front js ++ operator js))) ∙ ap (λ v. worse v (worst (front js ++ operator js))) (sym w-is);
           }

@@ -2,7 +2,7 @@
 use mathlib.Core.Path.{◌≡◌, refl, ap, sym, subst, ◌∙◌}
 use mathlib.Core.Bool.{Bool, true, false, cond}
 use mathlib.Core.List.{List, [], ◌∷◌, ◌++◌, map, append_assoc, append-nil}
-use Prim.Native.Nat.{ℕ, ◌+◌, ◌≤◌, ◌<◌, min}
+use Prim.Native.Nat.{ℕ, ◌+◌, ◌≤◌, ◌<◌}
 use native.Mathlib.Nat.{add-zero}
 use native.Mathlib.Numerals.{add-one}
 use native.Mathlib.Omega.{arith}
@@ -11,16 +11,16 @@ use lib.ListN.{length, take, drop, set, length-set}
 use lib.Seq.{take-suc-set, take-set-le}
 use borrow.Author.Tests.{eq-eqb, ne_eqb, eqb-true, eqb-false}
 use Rattle.drafts.specs.Marks.{mark, mark_of}
-use Rattle.statements.specs.Checks.{clean, token_code}
+use Rattle.statements.specs.Checks.{token_verdict}
 use Rattle.statements.specs.Faults.{lower}
 use Rattle.lists.specs.Lists.{keep}
 use Rattle.lexer.specs.declared.Token.{Token}
 use Rattle.lexer.specs.MovedLaws.{shift, colon-most, item-moved, moved-next}
 use Rattle.lexer.specs.Tokens.{item_of, NextToken, Movable, moved}
-use Rattle.statements.specs.Faults.{Fault}
-use Rattle.std.specs.Prelude.{Option, None}
+use Rattle.statements.specs.Faults.{Fault, Verdict, worse}
+use Rattle.std.specs.Prelude.{Option, None, Ok}
 use Rattle.statements.specs.StatementAt.{statement_at, stops, fault_of}
-use Rattle.statements.specs.StatementLaws.{at-stop, at_item, on}
+use Rattle.statements.specs.StatementLaws.{goes, at-stop, at_item, on}
 use Rattle.scanner.specs.Below.Items.{Item, is, same_sort}
 use Rattle.scanner.specs.Below.Items.Sort.{word}
 use Rattle.scanner.specs.Below.Statements.{keyword_of, front, labels_in, is_name}
@@ -80,7 +80,7 @@ module _ {s : List ℕ} {n i count : ℕ} {ms ms' : List ℕ} {c : ℕ} {t : Tok
               }
 
 -- All that is known of whatever text s whose rest from place n on is r, at place j of the rest
-pub record Reading (r : List ℕ) (n : ℕ) (ms : List ℕ) (count j f : ℕ) (fault : Fault) (w : ℕ) (ms' : List ℕ) (c : ℕ) : Type 0 where
+pub record Reading (r : List ℕ) (n : ℕ) (ms : List ℕ) (count j f : ℕ) (fault : Fault) (w : Verdict) (ms' : List ℕ) (c : ℕ) : Type 0 where
   pub most : j ≤ length r
   pub few : c ≤ n + j
   pub room : length ms' ≡ 32768
@@ -88,7 +88,7 @@ pub record Reading (r : List ℕ) (n : ℕ) (ms : List ℕ) (count j f : ℕ) (f
   pub same : length ms' ≡ length ms
   is : (s : List ℕ) → n ≤ length s → drop n s ≡ r → Leading s n (n + j) f fault w × Putting s n (n + j) count ms ms' c
 
-pub reading-first : {r : List ℕ} {n : ℕ} {ms : List ℕ} {count : ℕ} → Headable r n ms count → Reading r n ms count 0 n None clean ms count
+pub reading-first : {r : List ℕ} {n : ℕ} {ms : List ℕ} {count : ℕ} → Headable r n ms count → Reading r n ms count 0 n None (Ok tt) ms count
 reading-first {r} {n} {ms} {count} p =
     record {
       most = omega arith;
@@ -98,6 +98,26 @@ reading-first {r} {n} {ms} {count} p =
       same = refl;
       is = λ s le h. rw (add-zero n) (leading-first le, record { counts = refl; marks = refl });
     }
+
+-- the token t is next, and the first item of all stands at `first`
+pub record Going (r : List ℕ) (n : ℕ) (ms : List ℕ) (count : ℕ) (t : Token) (first : ℕ) (fault : Fault) (w : Verdict) (ms' : List ℕ) (c : ℕ) : Type 0 where
+  pub place : ℕ
+  pub before : ℕ
+  pub reading : Reading r n ms count place before fault w ms' c
+  pub token : NextToken r place t
+  pub first_is : first ≡ cond (eqb place 0) (n + t.at) before
+
+pub going-first : {r : List ℕ} {n : ℕ} {ms : List ℕ} {count : ℕ} → Headable r n ms count → {t : Token} → NextToken r 0 t → {first : ℕ} → first ≡ n + t.at
+    → Going r n ms count t first None (Ok tt) ms count
+going-first {n = n} p k e = record { place = 0; before = n; reading = reading-first p; token = k; first_is = e }
+
+pub going-on : {r : List ℕ} {n : ℕ} {ms : List ℕ} {count i j first : ℕ} {fault : Fault} {w : Verdict} {ms' : List ℕ} {c : ℕ}
+    → Reading r n ms count j first fault w ms' c → i < j → {t : Token} → NextToken r j t → Going r n ms count t first fault w ms' c
+going-on {j} {first} u l k = record { place = j; before = first; reading = u; token = k; first_is = rw (ne_eqb j 0 (λ q. omega (arith, q, l))) refl }
+
+module _ {r : List ℕ} {n : ℕ} {ms : List ℕ} {count : ℕ} {t : Token} {first : ℕ} {fault : Fault} {w : Verdict} {ms' : List ℕ} {c : ℕ} (u : Going r n ms count t first fault w ms' c) where
+  pub first-at : {o : Token} → o ≡ moved n t → first ≡ cond (eqb u.place 0) o.at u.before
+  first-at g = u.first_is ∙ ap (λ (x : Token). cond (eqb u.place 0) x.at u.before) (sym g)
 
 known-shift : (n : ℕ) (i : Item) → known_item (shift n i) ≡ known_item i
 unfolding keyword_of
@@ -110,7 +130,7 @@ same_place n j = go (eqb j 0) refl
     go true e = let q = eqb-true j 0 e in sym (eq-eqb (n + j) n (omega arith))
     go false e = sym (ne_eqb (n + j) n (λ q. eqb-false j 0 e (omega arith)))
 
-module _ {r : List ℕ} {n : ℕ} {ms : List ℕ} {count j f : ℕ} {fault : Fault} {w : ℕ} {ms' : List ℕ} {c : ℕ}
+module _ {r : List ℕ} {n : ℕ} {ms : List ℕ} {count j f : ℕ} {fault : Fault} {w : Verdict} {ms' : List ℕ} {c : ℕ}
     (u : Reading r n ms count j f fault w ms' c) {t : Token} (k : NextToken r j t) where
   pub movable : Movable n t
   movable =
@@ -131,6 +151,9 @@ module _ {r : List ℕ} {n : ℕ} {ms : List ℕ} {count j f : ℕ} {fault : Fau
     pub goes_on : stops o.sort ≡ false → j < t.next
     goes_on z = on k (sym (ap (λ (x : Token). stops x.sort) g) ∙ z)
 
+    pub at-less : stops o.sort ≡ false → t.at < t.next
+    at-less z = let m = k.stands.some (goes t.sort (sym (ap (λ (x : Token). stops x.sort) g) ∙ z)).0 in omega (arith, m, k.stands.behind)
+
     pub room-left : stops o.sort ≡ false → c < length ms'
     room-left z = omega (arith, u.room, u.few, k.stands, goes_on z, u.low)
 
@@ -147,7 +170,7 @@ module _ {r : List ℕ} {n : ℕ} {ms : List ℕ} {count j f : ℕ} {fault : Fau
           let k' = there s le h in
           (no-head (u.is s le h).0 k' (same_place n j) f_is z, all-put (u.is s le h).1 k' u.same (no_front (at-stop k' z)))
 
-      module _ (z : stops o.sort ≡ false) {w' : ℕ} (w-is : w' ≡ min w (token_code o)) where
+      module _ (z : stops o.sort ≡ false) {w' : Verdict} (w-is : w' ≡ worse w (token_verdict o)) where
         pub head_read : operates o ≡ true → {v : Option Known} → v ≡ known_item (item_of r t) → Heads r n count ms ms' (head_with f' fault c w' o v)
         head_read y e s le h =
             let k' = there s le h in

@@ -10,7 +10,7 @@ use Rattle.lexer.specs.declared.Token.{Token}
 use Rattle.lexer.specs.Tokens.{item_of, Stands, NextToken}
 use Rattle.lists.specs.Lists.{filled, if_any, keep}
 use Rattle.statements.proofs.Ends.{Within}
-use Rattle.statements.specs.Faults.{Fault}
+use Rattle.statements.specs.Faults.{Fault, Verdict}
 use Rattle.statements.specs.StatementAt.{statement_at, stops, fault_of, Ended}
 use Rattle.std.specs.Bool.{then_some}
 use Rattle.std.specs.Prelude.{Option, None, Some}
@@ -35,7 +35,7 @@ own_item english i = is word i && own english i.chars
 abbrev pub known_item : Item → Option Known
 known_item i = cond (is word i) (known i.chars) None
 
-abbrev pub head_with : ℕ → Fault → ℕ → ℕ → Token → Option Known → Head
+abbrev pub head_with : ℕ → Fault → ℕ → Verdict → Token → Option Known → Head
 head_with first fault names worst op k = record { first = first; fault = fault; names = names; worst = worst; op = op; known = k }
 
 -- the keyword of a statement's operator

@@ -6,14 +6,14 @@ ghost use Rattle.drafts.specs.Marks.{mark_of};
 ghost use Rattle.lexer.specs.Tokens.{item_of, Stands};
 ghost use Rattle.statements.specs.StatementAt.{fault_of};
 ghost use Rattle.scanner.specs.Below.Statements.{is_name};
-ghost use Rattle.words.specs.Keywords.{keyword_known, is_own};
+ghost use Rattle.words.specs.Keywords.{keyword_known, is_english, is_own};
 ghost use Rattle.heads.specs.Heads.{following, known_item, operates, opens, bars, is_switch, is_by_name, instr_by, Headable, Heads};
 
 use language::Operator;
 use lexer::{Token, moved, next_item};
 use scanner::Sort;
-use statements::{CLEAN, Fault, lower, stops, worse};
-use words::{Keyword, Known};
+use statements::{Fault, Verdict, lower, stops, worse};
+use words::{Edition, Keyword, Known};
 
 // The place of the first item, or of what ends the statement; the first item in front of the operator that is no name; how many names there are with
 // its labels; questions 14, 15 and 16 of the items up to the operator; the operator, or the token that ends the statement; what is known of the operator, if
@@ -23,7 +23,7 @@ pub struct Head {
     pub first: usize,
     pub fault: Fault,
     pub names: usize,
-    pub worst: usize,
+    pub worst: Verdict,
     pub op: Token,
     pub known: Option<Known>,
 }
@@ -35,14 +35,11 @@ impl Head {
         self.known.map(|k| k.keyword)
     }
 
-    // Whether the operator's word is the English edition's own, or the Polish one's.
-    pub fn is_own(self, english: bool) -> bool
-        ensures { result ≡ is_own english self.known }
+    // Whether the operator's word is an edition's own.
+    pub fn is_own(self, edition: Edition) -> bool
+        ensures { result ≡ is_own (is_english edition) self.known }
     {
-        match self.known {
-            Some(k) => k.is_own(english),
-            None => false,
-        }
+        self.known.is_some_and(|k| k.is_own(edition))
     }
 }
 
@@ -124,13 +121,6 @@ fn name_fault(text: &[u8], t: Token, at: usize) -> Fault
     if is_name(text, t) { None } else { Some(at) }
 }
 
-// An `if` in the loop itself would give each goal after it two cases.
-fn pick(b: bool, x: usize, y: usize) -> usize
-    ensures { result ≡ cond b x y }
-{
-    if b { x } else { y }
-}
-
 // A word's place and length in one number.
 // A number and no struct: marks stand in lent rows and in cells of the table, and a struct would be made of one and turned to one at each use.
 pub fn mark(at: usize, len: usize) -> u32
@@ -150,19 +140,18 @@ pub fn following(t: Token) -> Option<usize>
 // The head of the statement with which the unread rest of a text begins, at place `n` of the text. The marks of its labels come behind the first `count`
 // names.
 // The whole row and a count: the questions on labels that come next read the marks before these too, by their indices in the row.
+// Each turn goes on behind the item that it read, so there is no range to run over.
 pub fn read_head(rest: &[u8], n: usize, names: &mut [u32], count: usize) -> Head
     requires { Headable rest.now n names.old count }
     ensures { Heads rest.now n count names.old names.new result }
 {
-    let mut first = n;
+    let mut t = next_item(rest, 0);
+    let first = n + t.at;
     let mut fault = None;
     let mut c = count;
-    let mut worst = CLEAN;
-    let mut i: usize = 0;
+    let mut worst = Ok(());
     loop {
-        let t = next_item(rest, i);
         let o = moved(t, n);
-        first = pick(i == 0, o.at, first);
         if stops(o.sort) {
             return Head {
                 first,
@@ -187,6 +176,6 @@ pub fn read_head(rest: &[u8], n: usize, names: &mut [u32], count: usize) -> Head
         fault = lower(fault, name_fault(rest, t, o.at));
         names[c] = mark(o.at, o.len);
         c += usize::from(o.is(Sort::Word));
-        i = t.next;
+        t = next_item(rest, t.next);
     }
 }

@@ -2,14 +2,12 @@
 use mathlib.Core.Path.{◌≡◌, refl, ap, sym, ◌∙◌}
 use mathlib.Core.Bool.{Bool, true, false, cond, not, ◌||◌, true≢false}
 use mathlib.Core.List.{List, [], ◌∷◌, map}
-use Prim.Native.Nat.{ℕ, suc, ◌+◌, ◌-◌, ◌≤◌, ◌<◌}
-use native.Mathlib.Decide.{dec_lt}
-use native.Mathlib.Numerals.{add-one}
+use Prim.Native.Nat.{ℕ, ◌-◌, ◌≤◌}
 use native.Mathlib.Omega.{arith}
-use lib.ListN.{length, get_or, take, drop, length-take, length-drop}
-use lib.Seq.{drop-cons}
+use lib.ListN.{length, take, drop}
+use lib.Seq.{take-length}
 use Rattle.drafts.specs.DraftingLaws.{place-back}
-use Rattle.drafts.specs.Marks.{mark, place_by, marks_in}
+use Rattle.drafts.specs.Marks.{mark, place_by}
 use Rattle.statements.specs.FaultLaws.{fault-both}
 use Rattle.statements.specs.Faults.{lower}
 use Rattle.heads.specs.Heads.{own_item, bars, is_switch, head_keyword, Headed}
@@ -42,19 +40,6 @@ by-switch X Spec.Keyword.KONS = refl
 by-switch X Spec.Keyword.KONP = refl
 by-switch X (Spec.Keyword.switch goes_by_name) = refl
 by-switch X (Spec.Keyword.instr op) = refl
-
-less : (a b : ℕ) → a ≤ b → (a ≡ b → ⊥) → a < b
-less a b h q = go (dec_lt a b)
-  where
-    go : Dec (a < b) → a < b
-    go (yes l) = l
-    go (no l) = absurd (q (omega arith))
-
-marks-first : (ms : List ℕ) (a b : ℕ) → a < b → b ≤ length ms → marks_in ms a b ≡ get_or ms a 0 ∷ marks_in ms (a + 1) b
-marks-first ms a b h k =
-    let e : b - a ≡ suc (b - (a + 1)) = omega arith in
-    let l : a < length ms = omega arith in
-    rw (e, drop-cons ms a 0, add-one) refl
 
 places-back : (ls : List Item) → Each (λ l. length l.chars ≤ limit.item) ls → map place_by (map mark ls) ≡ places ls
 places-back [] h = refl
@@ -143,24 +128,20 @@ module _ {s : List ℕ} {n : ℕ} {h : Head} (g : Headed s n h) where
     operator_of false z = ap places (operator-here g z)
 
     -- the switch has no label
-    pub no_label : (ms : List ℕ) (a : ℕ) → a ≡ h.names → (ls : List Item) → map mark ls ≡ marks_in ms a h.names → Some h.op.at ≡ fault_of (label_faults ls x)
+    pub no_label : (ms : List ℕ) → length ms ≡ 0 → (ls : List Item) → map mark ls ≡ ms → Some h.op.at ≡ fault_of (label_faults ls x)
     unfolding lowest
-    no_label ms a q [] m = sym (ap fault_of (by-head true e [] ∙ operator_of (stops h.op.sort) refl))
-    no_label ms a q (l ∷ ls) m =
-        let k : h.names - a ≡ 0 = omega arith in
-        let c : length (map mark (l ∷ ls)) ≡ 0 = ap length (m ∙ ap (λ (j : ℕ). take j (drop a ms)) k) in
-        absurd (omega (arith, c))
+    no_label ms q [] m = sym (ap fault_of (by-head true e [] ∙ operator_of (stops h.op.sort) refl))
+    no_label ms q (l ∷ ls) m = absurd (omega (arith, ap length m, q))
 
     -- those in excess
-    pub labels-over : (ms : List ℕ) (a : ℕ) → a ≤ h.names → h.names ≤ length ms → (a ≡ h.names → ⊥) → {r : Fault} → r ≡ fault_of (map place_by (marks_in ms (a + 1) h.names))
-        → (ls : List Item) → map mark ls ≡ marks_in ms a h.names → Each (λ l. length l.chars ≤ limit.item) ls → r ≡ fault_of (label_faults ls x)
-    labels-over ms a o most q f [] m s =
-        let c : 0 ≡ length (take (h.names - a) (drop a ms)) = ap length m in
-        absurd (omega (arith, c, length-take (h.names - a) (drop a ms), length-drop a ms, q-less))
-      where
-        q-less : a < h.names
-        q-less = less a h.names o q
-    labels-over ms a o most q f (l ∷ ls) m s =
-        let u = marks-first ms a h.names (less a h.names o q) most in
-        let later : marks_in ms (a + 1) h.names ≡ map mark ls = cc in
-        f ∙ ap (λ (xs : List ℕ). fault_of (map place_by xs)) later ∙ ap fault_of (places-back ls s.1) ∙ sym (ap fault_of (by-head true e (l ∷ ls)))
+    pub labels-over : (ms : List ℕ) → (length ms ≡ 0 → ⊥) → {r : Fault} → r ≡ fault_of (map place_by (take (length ms - 1) (drop 1 ms)))
+        → (ls : List Item) → map mark ls ≡ ms → Each (λ l. length l.chars ≤ limit.item) ls → r ≡ fault_of (label_faults ls x)
+    labels-over ms q f [] m s = absurd (q (sym (ap length m)))
+    labels-over ms q f (l ∷ ls) m s =
+        let size : length (map mark (l ∷ ls)) - 1 ≡ length (map mark ls) = omega arith in
+        let later : take (length (map mark (l ∷ ls)) - 1) (map mark ls) ≡ map mark ls = rw size (take-length (map mark ls)) in
+        f
+        ∙ ap (λ (xs : List ℕ). fault_of (map place_by (take (length xs - 1) (drop 1 xs)))) (sym m)
+        ∙ ap (λ (xs : List ℕ). fault_of (map place_by xs)) later
+        ∙ ap fault_of (places-back ls s.1)
+        ∙ sym (ap fault_of (by-head true e (l ∷ ls)))

@@ -1,6 +1,6 @@
 -- The questions of a statement on its operator and its labels, by its head.
 use Rattle.std.specs.Prelude.{◌≡◌, Bool, not, ◌&&◌, ◌||◌, List, map, ℕ, ◌≤◌, length}
-use Rattle.drafts.specs.Marks.{mark, marks_in}
+use Rattle.drafts.specs.Marks.{mark}
 use Rattle.heads.specs.Heads.{bars, head_keyword, Headed}
 use Rattle.heads.specs.declared.Head.{Head}
 use Rattle.language.specs.Limits as limit
@@ -19,14 +19,8 @@ is_barred english h = not (stops h.op.sort) && (bars (head_keyword h) || is_own 
 abbrev pub OperatorFault : Head → Bool → Fault → Type 0
 OperatorFault h english r = (s : List ℕ) (n : ℕ) → Headed s n h → r ≡ fault_of (operator_faults english (statement_at s n))
 
--- the marks from index a up to the head's own are there
-pub record Labelled (h : Head) (ms : List ℕ) (a : ℕ) : Type 0 where
-  pub order : a ≤ h.names
-  pub most : h.names ≤ length ms
-  pub low : a ≤ 32768
-
 -- 08, whatever labels have these marks
-abbrev pub LabelFault : Head → List ℕ → ℕ → Fault → Type 0
-LabelFault h ms a r =
-    (s : List ℕ) (n : ℕ) → Headed s n h → (ls : List Item) → map mark ls ≡ marks_in ms a h.names → Each (λ l. length l.chars ≤ limit.item) ls
+abbrev pub LabelFault : Head → List ℕ → Fault → Type 0
+LabelFault h ms r =
+    (s : List ℕ) (n : ℕ) → Headed s n h → (ls : List Item) → map mark ls ≡ ms → Each (λ l. length l.chars ≤ limit.item) ls
     → r ≡ fault_of (label_faults ls (statement_at s n))

@@ -2,42 +2,43 @@
 #![tactic(auto)]
 
 ghost use Rattle.std.specs.Prelude.{◌≡◌};
-ghost use Rattle.judging.specs.Judging.{is_barred, OperatorFault, Labelled, LabelFault};
+ghost use Rattle.words.specs.Keywords.{is_english};
+ghost use Rattle.judging.specs.Judging.{is_barred, OperatorFault, LabelFault};
 
 use heads::{Head, bars, is_switch};
 use names::lowest_mark;
 use statements::{Fault, lower, stops};
+use words::Edition;
 
 // Whether the statement has an operator that may not stand after the first, in a section of an edition.
-fn is_barred(head: Head, english: bool) -> bool
-    ensures { result ≡ is_barred english head }
+fn is_barred(head: Head, edition: Edition) -> bool
+    ensures { result ≡ is_barred (is_english edition) head }
 {
-    !stops(head.op.sort) & (bars(head.keyword()) | head.is_own(!english))
+    !stops(head.op.sort) & (bars(head.keyword()) | head.is_own(edition.other()))
 }
 
 // Question 10, of a statement after the first in a section of an edition.
-pub fn operator_fault(head: Head, english: bool) -> Fault
-    ensures { OperatorFault head english result }
+pub fn operator_fault(head: Head, edition: Edition) -> Fault
+    ensures { OperatorFault head (is_english edition) result }
 {
-    if is_barred(head, english) {
+    if is_barred(head, edition) {
         lower(head.fault, Some(head.op.at))
     } else {
         head.fault
     }
 }
 
-// Question 08, where the marks of the labels that wait for the statement and of its own begin at index `from`.
-pub fn label_fault(head: Head, names: &[u32], from: usize) -> Fault
-    requires { Labelled head names.now from }
-    ensures { LabelFault head names.now from result }
+// Question 08, by the marks of the labels that wait for the statement and of its own.
+pub fn label_fault(head: Head, labels: &[u32]) -> Fault
+    ensures { LabelFault head labels.now result }
 {
     if !is_switch(head.keyword()) {
         return None;
     }
-    if from == head.names {
+    if labels.is_empty() {
         return Some(head.op.at);
     }
-    lowest_mark(&names[from + 1..head.names])
+    lowest_mark(&labels[1..])
 }
 
 // Of `names`, passed on to the crates above.

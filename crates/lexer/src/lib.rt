@@ -156,8 +156,5 @@ pub fn moved(t: Token, n: usize) -> Token
 pub fn line_at(lines: &[u16], at: usize) -> u16
     ensures { result ≡ line_at lines.now at }
 {
-    match lines.get(at) {
-        Some(line) => *line,
-        None => 1,
-    }
+    lines.get(at).copied().unwrap_or(1)
 }

@@ -19,7 +19,7 @@ use Rattle.syntax.specs.Verdict.Verdict.{yes, refuse}
 use Rattle.writing.specs.Writing.{HoldsProgram, Changes}
 use Rattle.linking.proofs.Relabelling.{linked-program, labelling}
 use Rattle.linking.specs.Linking.{Kept, Finds, Links, label_places, switch_places}
-use Rattle.linking.specs.declared.Missing.TheVariants.{Label, Switch}
+use Rattle.statements.specs.declared.Question.TheVariants.{Label, Switch}
 use Rattle.std.specs.Prelude.{Ok, Err}
 
 clear : (ps : List ℕ) → None ≡ fault_of ps → ps ≡ []
@@ -40,7 +40,7 @@ both-clear n m ps qs e f =
     sym ((λ j. first_no (ask n (e j) ∷ ask m (f j) ∷ [])) ∙ goes_on n (ask m [] ∷ []) ∙ goes_on m [])
 
 module _ (s c sw en : List ℕ) where
-  pub no_label : {f : Fault} (p : ℕ) → Finds s c sw en label_places f → f ≡ Some p → Links s c sw en (Err (Label p)) c
+  pub no_label : {f : Fault} (p : ℕ) → Finds s c sw en label_places f → f ≡ Some p → Links s c sw en (Err (record { question = Label; at = p })) c
   no_label p u e =
       record {
         verdict_is = λ lines t h. at_fault 12 p (label_places t) (ask 13 (switch_places t) ∷ []) (sym e ∙ u.is lines t h);
@@ -53,7 +53,7 @@ module _ (s c sw en : List ℕ) where
     declared : (lines : List ℕ) (t : Tables) → Tabled s lines t c sw en → label_places t ≡ []
     declared lines t h = clear (label_places t) (sym e ∙ u.is lines t h)
 
-    pub no_switch : {g : Fault} (p : ℕ) → Finds s c sw en switch_places g → g ≡ Some p → Links s c sw en (Err (Switch p)) c
+    pub no_switch : {g : Fault} (p : ℕ) → Finds s c sw en switch_places g → g ≡ Some p → Links s c sw en (Err (record { question = Switch; at = p })) c
     no_switch p v i =
         record {
           verdict_is = λ lines t h. at_fault 13 p (switch_places t) [] (sym i ∙ v.is lines t h) ∙ sym (goes_on 12 (ask 13 (switch_places t) ∷ []))

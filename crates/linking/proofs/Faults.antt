@@ -84,7 +84,7 @@ pub record Going (s sw c : List ℕ) (kind : ℕ) (named : Bool) (whole left : P
 
 module _ (s sw c : List ℕ) (kind : ℕ) (named : Bool) (f : Fault) (whole : Program → List ℕ) where
   -- the marks m are next
-  going_on : {g g' : Fault} {left left' : Program → List ℕ} (m : Program → List ℕ) → Going s sw c kind named whole left f g
+  pub going_on : {g g' : Fault} {left left' : Program → List ℕ} (m : Program → List ℕ) → Going s sw c kind named whole left f g
       → ((p : Program) → HoldsProgram c p → left p ≡ m p ++ left' p) → Judges c (λ p. joined g (faults s sw kind named p (m p))) g' → Going s sw c kind named whole left' f g'
   going_on {g} {g'} {left} {left'} m u e t =
       record {
@@ -92,7 +92,7 @@ module _ (s sw c : List ℕ) (kind : ℕ) (named : Bool) (f : Fault) (whole : Pr
             ∙ ap (λ (ms : List ℕ). joined g (faults s sw kind named p ms)) (sym (e p h)) ∙ u.is p h;
       }
 
-  going-over : {g : Fault} {left : Program → List ℕ} → Going s sw c kind named whole left f g → ((p : Program) → HoldsProgram c p → left p ≡ [])
+  pub going-over : {g : Fault} {left : Program → List ℕ} → Going s sw c kind named whole left f g → ((p : Program) → HoldsProgram c p → left p ≡ [])
       → Judges c (λ p. joined f (faults s sw kind named p (whole p))) g
   going-over {g} u e =
       record { is = λ p h. joined-none g ∙ ap (λ (ms : List ℕ). joined g (faults s sw kind named p ms)) (sym (e p h)) ∙ u.is p h }

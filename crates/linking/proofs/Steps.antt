@@ -1,6 +1,6 @@
 -- One argument and one entry after the other.
 use mathlib.Core.Path.{◌≡◌, refl, sym, ap, ◌∙◌, subst}
-use mathlib.Core.Bool.{cond}
+use mathlib.Core.Bool.{cond, true≢false}
 use mathlib.Core.List.{List}
 use Prim.Native.Nat.{ℕ, zero, suc, ◌+◌, ◌*◌, ◌/◌, ◌%◌, ◌≤◌, ◌<◌}
 use native.Mathlib.Numerals.{add-one}
@@ -13,6 +13,11 @@ use Rattle.drafts.specs.Marks.{word_by}
 use Rattle.finding.specs.Finding.{Tells}
 use Rattle.language.specs.Program.{Arg, Instr, Program, no_instr, instr_at, no_entry}
 use Rattle.language.specs.Program.Arg.{nothing, letter, label, switch, class, text}
+use Rattle.layout.specs.ArgumentKinds.{number, IsKind}
+use Rattle.layout.specs.declared.ArgumentKind.{ArgumentKind}
+use Rattle.layout.specs.declared.ArgumentKind.TheVariants as kind
+use Rattle.layout.specs.declared.NoKind.{NoKind}
+use Rattle.std.specs.Prelude.{Result, Ok, Err}
 use Rattle.layout.specs.Cells.{cell}
 use Rattle.layout.specs.Table.{arg_cell, all_entries}
 use Rattle.layout.specs.Places as layout
@@ -55,6 +60,20 @@ module _ (f : ℕ → Program → Program) where
   untouched g h (suc k) p = h k (all_changed f k p) ∙ untouched g h k p
 
 -- ---- an argument by its cell
+
+-- a kind by its number
+abbrev kind_by : ℕ → ArgumentKind
+kind_by n =
+    cond (eqb n 1) kind.Letter (cond (eqb n 2) kind.Label (cond (eqb n 3) kind.Switch (cond (eqb n 4) kind.Class (cond (eqb n 5) kind.Text (cond (eqb n 6) kind.Number kind.Nothing)))))
+
+kind-back : (a : ArgumentKind) → kind_by (number a) ≡ a
+kind-back kind.Nothing = refl
+kind-back kind.Letter = refl
+kind-back kind.Label = refl
+kind-back kind.Switch = refl
+kind-back kind.Class = refl
+kind-back kind.Text = refl
+kind-back kind.Number = refl
 
 resolved-by-kind : (s sw : List ℕ) (p : Program) (a : Arg) → resolved_arg s sw p a
     ≡ cond (eqb (kind_of a) 2) (label (label_by s p (arg_cell p a / 8))) (cond (eqb (kind_of a) 3) (switch (switch_by s sw (length p.switches) (arg_cell p a / 8))) a)
@@ -106,7 +125,7 @@ module _ (s sw c : List ℕ) (k j x : ℕ) (a : AskingFor c sw k j) (is : x ≡ 
       (λ p h. ap switch (t ∙ ap (λ (n : ℕ). switch_by s sw n (x / 8)) (c_is ∙ switch_count c p h))
       ∙ sym (rw (ne_eqb (x % 8) 2 (λ f. omega (arith, e, f)), eq-eqb (x % 8) 3 e) at (becomes p h))) w
 
-  pub none-put : (x % 8 ≡ 2 → ⊥) → (x % 8 ≡ 3 → ⊥) → Changes (argument_resolved s sw k j) c c
+  none-put : (x % 8 ≡ 2 → ⊥) → (x % 8 ≡ 3 → ⊥) → Changes (argument_resolved s sw k j) c c
   unfolding argument_resolved
   none-put e f =
       record {
@@ -114,6 +133,17 @@ module _ (s sw c : List ℕ) (k j x : ℕ) (a : AskingFor c sw k j) (is : x ≡ 
             (sym (with-same k j p) ∙ ap (λ (y : Arg). with_argument k j y p) (sym (rw (ne_eqb (x % 8) 2 e, ne_eqb (x % 8) 3 f) at (becomes p h)))) h;
         beyond = refl;
       }
+
+  -- neither a label nor a switch, by the kind of the cell
+  pub none-kind : {r : Result ArgumentKind NoKind} → IsKind (x % 8) r → (r ≡ Ok kind.Label → ⊥) → (r ≡ Ok kind.Switch → ⊥) → Changes (argument_resolved s sw k j) c c
+  none-kind {r} i l w = none-put (λ e. other r i 2 e (omega arith) kind.Label refl l) (λ e. other r i 3 e (omega arith) kind.Switch refl w)
+    where
+      same : (a b : ArgumentKind) → number a ≡ number b → a ≡ b
+      same a b e = sym (kind-back a) ∙ ap kind_by e ∙ kind-back b
+
+      other : (o : Result ArgumentKind NoKind) → IsKind (x % 8) o → (n : ℕ) → x % 8 ≡ n → n < 7 → (a : ArgumentKind) → number a ≡ n → (o ≡ Ok a → ⊥) → ⊥
+      other (Ok b) i n e m a q f = f (ap Ok (same b a (i.number_is ∙ e ∙ sym q)))
+      other (Err b) i n e m a q f = true≢false (sym (i.some (omega (arith, e, m))))
 
 -- what a search for a switch answers is small
 pub switch-low : {c : List ℕ} (s sw : List ℕ) (n m v : ℕ) → Asking c sw → n ≡ cell (table_of c) 2 → v ≡ switch_by s sw n m → v ≤ 32
@@ -132,6 +162,14 @@ module _ (s sw : List ℕ) where
   pub argument-long : (k j : ℕ) (p : Program) → length (argument_resolved s sw k j p).code ≡ length p.code
   unfolding argument_resolved with_argument
   argument-long k j p = length-set p.code k _
+
+  pub arguments-long : (k j : ℕ) (p : Program) → length (all_changed (argument_resolved s sw k) j p).code ≡ length p.code
+  arguments-long k = untouched (argument_resolved s sw k) (λ p. length p.code) (argument-long k)
+
+  -- all three arguments
+  pub all-three : {c d : List ℕ} (k : ℕ) → Changes (all_changed (argument_resolved s sw k) 3) c d → Changes (instr_resolved s sw k) c d
+  unfolding all_changed
+  all-three k x = x
 
   pub code-long : (k : ℕ) (p : Program) → length (code_resolved s sw k p).code ≡ length p.code
   code-long =

@@ -1,5 +1,15 @@
 -- The word of a mark; the place of a name among the switches' names; and switches by their types, as they stand in the table.
-use mathlib.Core.Path.{◌≡◌, refl, sym, ap, ◌∙◌}
+use Rattle.std.specs.declared.ops.Range.{Range}
+use denote.Param.Members.{Mut}
+use Rattle.std.specs.Bool.{MatchBool}
+use Rattle.std.specs.Fn.{Called}
+use Rattle.std.specs.Iterator.{YieldsThen}
+use Rattle.std.specs.List.{AllWithin, FoldsTo, HoldsAt, range_with_len}
+use Rattle.std.specs.Option.{MatchOption}
+use Rattle.std.proofs.iter.Yields.{nat_range_steps}
+use Rattle.std.proofs.lemmas.Iterator.{YieldsList-from_range, cases_from_any}
+use Rattle.std.proofs.lemmas.List.FromFn.{length-range_with_len, get_or-range_with_len}
+use mathlib.Core.Path.{◌≡◌, refl, sym, ap, ◌∙◌, subst}
 use mathlib.Core.Bool.{Bool, true, false, cond, ◌&&◌, ◌||◌, beq}
 use mathlib.Core.List.{List, [], ◌∷◌}
 use Prim.Native.Nat.{ℕ, zero, suc, ◌+◌, ◌*◌, ◌%◌, ◌≤◌, ◌<◌, min, ◌-◌, ◌/◌}
@@ -7,24 +17,53 @@ use native.Mathlib.Nat.{not-suc-le-zero, le_of_suc-le-suc}
 use native.Mathlib.Omega.{arith}
 use lib.Dec.{eqb}
 use lib.ListN.{length, get_or, take, drop, length-drop, drop_of_length-le}
-use lib.Seq.{length-take-le, take_all, take-nil}
-use Rattle.std.specs.Prelude.{Option, position, unwrap_or}
+use lib.Seq.{take_all, take-nil}
+use Rattle.std.specs.Prelude.{Option}
 use borrow.Author.Tests.{eq-eqb, ne_eqb}
 use Rattle.drafts.specs.Marks.{word_by}
-use Rattle.finding.proofs.Found.{Missed, place_or}
+use Rattle.table.proofs.Keys.{Missed}
 use Rattle.language.specs.Program.{Switch, Program, no_switch}
 use Rattle.layout.proofs.CellLaws.{padded-at}
 use Rattle.layout.specs.Cells.{cell}
 use Rattle.layout.specs.Table.{switch_cells, switch_in, counts}
 use Rattle.layout.specs.Places as layout
 use Rattle.lists.specs.Lists.{bytes_equal}
+use Rattle.lists.specs.RangeLaws.{TestsBy}
 use Rattle.packed.specs.Packed.{table_of}
 use Rattle.writing.proofs.Growing.{code_part, labels_part, texts_part, switches_part, entries_part, numbers_part, parts, in_parts, sizes, switches-long}
 use Rattle.writing.proofs.Held.{switch_count}
 use Rattle.writing.proofs.Parts.{switches-at}
 use Rattle.writing.specs.Writing.{HoldsProgram}
-use Rattle.linking.specs.Lookup.{switch_by, is_switch, Judges}
+use Rattle.linking.specs.Lookup.{is_switch, Judges}
 use native.Mathlib.Decide.{dec_lt}
+
+-- ---- what `(0..n).any(..)` answers
+
+module _ {F : Type 0} (g : Mut F (ℕ × Unit {0}) Bool) (closure : F) where
+  abbrev pub AnyRan : ℕ → Range ℕ → Bool → Type 0
+  AnyRan n u r =
+      (xs : List ℕ) × (o : Option ℕ) × (j : F) × YieldsThen nat_range_steps (record { start = 0; end = n }) xs o u × FoldsTo (λ p x q. Called g p (x, tt) false q) closure xs j
+      × MatchOption o (r ≡ false) (λ x. (r ≡ true) × ((h : F) × Called g j (x, tt) true h))
+
+-- one of the numbers below n is hit, or none
+abbrev pub AnyHit : (ℕ → Bool) → ℕ → Bool → Type 0
+AnyHit hit n r = MatchBool r ((k : ℕ) × (k < n) × (hit k ≡ true)) (Missed hit n)
+
+pub any_below : {F : Type 0} {g : Mut F (ℕ × Unit {0}) Bool} (hit : ℕ → Bool) (n : ℕ) (closure : F) (u : Range ℕ) (r : Bool) → AnyRan g closure n u r → TestsBy g closure hit → AnyHit hit n r
+any_below hit n closure u r ran tests =
+    by r (cases_from_any u closure r (λ k. hit k ≡ true) (λ k. hit k ≡ false) ran (YieldsList-from_range 0 n n refl (omega arith)) (λ x q e. sym (tests x true q e).1) (λ x q e. ((tests x false q e).0, sym (tests x false q e).1)))
+  where
+    all : List ℕ
+    all = range_with_len 0 n
+
+    there : (k : ℕ) → k < n → get_or all k 0 ≡ k
+    there k l = omega (arith, get_or-range_with_len 0 n k 0 l)
+
+    by : (b : Bool) → MatchBool b ((k : ℕ) × (k < length all) × HoldsAt (λ y. hit y ≡ true) all k) (AllWithin (λ y. hit y ≡ false) all 0 (length all)) → AnyHit hit n b
+    by true h = let l : h.0 < n = omega (arith, h.1, length-range_with_len 0 n) in (h.0, l, subst (λ y. hit y ≡ true) (there h.0 l) (h.2 0))
+    by false h = λ k l. subst (λ y. hit y ≡ false) (there k l) (h k 0 (omega arith) (omega (arith, l, length-range_with_len 0 n)))
+
+-- ---- the word of a mark
 
 cut : (s : List ℕ) (at len a b : ℕ) → a ≡ min (length s) at → b ≡ min (length s) (at + len) → take (b - a) (drop a s) ≡ take len (drop at s)
 cut s at len a b e f = go (dec_lt at (length s)) (dec_lt (length s) (at + len))
@@ -46,15 +85,6 @@ cut s at len a b e f = go (dec_lt at (length s)) (dec_lt (length s) (at + len))
 pub word_cut : (s : List ℕ) (m a b : ℕ) → a ≡ min (length s) (m / 64) → b ≡ min (length s) (m / 64 + m % 64) → take (b - a) (drop a s) ≡ word_by s m
 unfolding word_by
 word_cut s m a b e f = cut s (m / 64) (m % 64) a b e f
-
--- ---- a switch by its name
-
-module _ (s sw : List ℕ) where
-  abbrev q : ℕ → ℕ → Bool
-  q m x = bytes_equal (word_by s m) (word_by s x)
-
-  pub place-or : (n m : ℕ) → n ≤ length sw → {o : Option ℕ} {v : ℕ} → o ≡ position (q m) (take n sw) → v ≡ unwrap_or o n → v ≡ switch_by s sw n m
-  place-or n m l e f = place_or (q m) (take n sw) e (sym (length-take-le n sw l)) f
 
 -- ---- a switch by its name and its type
 
@@ -99,23 +129,23 @@ module _ (s c sw : List ℕ) (named : Bool) (m : ℕ) where
   abbrev pub switch_hit : ℕ → Bool
   switch_hit j = bytes_equal (word_by s m) (word_by s (get_or sw j 0)) && beq named (switch_in (table_of c) j).goes_by_name
 
-  -- what the code computes at k
-  pub hit-is : (k x : ℕ) {a b : Bool} → x ≡ get_or sw k 0 → a ≡ bytes_equal (word_by s m) (word_by s x) → b ≡ (switch_in (table_of c) k).goes_by_name → (a && beq named b) ≡ switch_hit k
-  hit-is k x e f g = cc
-
   tests : (p : Program) → HoldsProgram c p → (j : ℕ) → j < length p.switches → switch_hit j ≡ hits s named m sw p.switches j
   tests p h j l = ap (λ (b : Bool). bytes_equal (word_by s m) (word_by s (get_or sw j 0)) && beq named b) (kind-read c p h j l)
 
-  pub switch-found : (n k : ℕ) → n ≡ cell (table_of c) 2 → length sw ≡ 32 → k < n → switch_hit k ≡ true → Judges c (λ p. is_switch s named m sw p.switches) true
+  switch-found : (n k : ℕ) → n ≡ cell (table_of c) 2 → length sw ≡ 32 → k < n → switch_hit k ≡ true → Judges c (λ p. is_switch s named m sw p.switches) true
   switch-found n k is room l e =
       record {
         is = λ p h. let b : k < length p.switches = omega (arith, is, switch_count c p h) in
             sym (switch_at s named m sw p.switches k (omega (arith, room, h.tabular.switches_most)) b (sym (tests p h k b) ∙ e));
       }
 
-  pub switch-none : (n : ℕ) → n ≡ cell (table_of c) 2 → Missed switch_hit n → Judges c (λ p. is_switch s named m sw p.switches) false
+  switch-none : (n : ℕ) → n ≡ cell (table_of c) 2 → Missed switch_hit n → Judges c (λ p. is_switch s named m sw p.switches) false
   switch-none n is u =
       record {
         is = λ p h. let e : n ≡ length p.switches = is ∙ switch_count c p h in
             sym (switch-past s named m sw p.switches (λ j l. sym (tests p h j l) ∙ u j (omega (arith, e))));
       }
+
+  pub switch-asked : {n : ℕ} (r : Bool) → n ≡ cell (table_of c) 2 → length sw ≡ 32 → AnyHit switch_hit n r → Judges c (λ p. is_switch s named m sw p.switches) r
+  switch-asked true is room h = switch-found _ h.0 is room h.1 h.2
+  switch-asked false is room h = switch-none _ is h

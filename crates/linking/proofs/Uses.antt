@@ -1,7 +1,7 @@
 -- The marks of an instruction's arguments, as they stand in the table.
 use mathlib.Core.Path.{◌≡◌, refl, sym, ap, ◌∙◌}
 use mathlib.Core.Bool.{Bool, true, false, cond}
-use mathlib.Core.List.{List, [], ◌∷◌, ◌++◌}
+use mathlib.Core.List.{List, [], ◌∷◌, ◌++◌, append-nil}
 use Prim.Native.Nat.{ℕ, zero, suc, ◌+◌, ◌*◌, ◌/◌, ◌%◌, ◌≤◌, ◌<◌}
 use native.Mathlib.Omega.{arith}
 use lib.ListN.{length, get_or, drop}
@@ -10,7 +10,7 @@ use borrow.Author.Tests.{eq-eqb, ne_eqb}
 use Rattle.language.specs.Instructions.{operation}
 use Rattle.language.specs.Program.{Arg, Instr, Program, no_instr, instr_at}
 use Rattle.language.specs.Program.Arg.{nothing, letter, label, switch, class, text}
-use Rattle.layout.proofs.ArgumentLaws.{operator-below}
+use Rattle.layout.proofs.ArgumentLaws.{operator-below, operator-range}
 use Rattle.layout.proofs.CellLaws.{block_at, next_cell}
 use Rattle.layout.specs.Cells.{cell}
 use Rattle.layout.specs.Table.{arg_cell, instr_cells}
@@ -25,7 +25,7 @@ use Rattle.std.specs.Prelude.{Option, is_some}
 use Rattle.finding.proofs.Found.{some_any}
 use Rattle.finding.specs.Finding.{Locates}
 use Rattle.statements.specs.Faults.{Fault}
-use Rattle.linking.proofs.Faults.{joined-none, faults-join, fault-one}
+use Rattle.linking.proofs.Faults.{joined-none, fault-one, Going, going_on, going-over}
 use Rattle.linking.specs.Lookup.{argument, marks_in, instr_marks, instr_uses, asked_by, is_label, is_switch, joined, known, faults, Asking, AskingAt, AskingFor, Judges}
 
 argument_cell : (p : Program) (i : Instr) (j : ℕ) → j < 3 → cell (instr_cells p i) (1 + j) ≡ arg_cell p (argument j i)
@@ -84,6 +84,20 @@ of-kind kind x e = ap (λ (b : Bool). cond b (x / 8 ∷ []) []) (eq-eqb (x % 8) 
 pub not-of-kind : (kind x : ℕ) → (x % 8 ≡ kind → ⊥) → marks_in kind x ≡ []
 not-of-kind kind x e = ap (λ (b : Bool). cond b (x / 8 ∷ []) []) (ne_eqb (x % 8) kind e)
 
+-- the marks of the arguments from argument j on, where they are of a kind
+module _ (kind : ℕ) (p : Program) (i : Instr) where
+  abbrev from_argument : ℕ → List ℕ
+  from_argument zero = instr_marks kind p i
+  from_argument (suc zero) = marks_in kind (arg_cell p i.second) ++ marks_in kind (arg_cell p i.third)
+  from_argument (suc (suc zero)) = marks_in kind (arg_cell p i.third)
+  from_argument (suc (suc (suc j))) = []
+
+  argument-next : (j : ℕ) → j < 3 → from_argument j ≡ marks_in kind (arg_cell p (argument j i)) ++ from_argument (j + 1)
+  argument-next zero l = refl
+  argument-next (suc zero) l = refl
+  argument-next (suc (suc zero)) l = sym (append-nil (marks_in kind (arg_cell p i.third)))
+  argument-next (suc (suc (suc j))) l = absurd (omega (arith, l))
+
 -- ---- what the functions tell
 
 -- as many marks as switches
@@ -127,32 +141,45 @@ module _ (s sw c : List ℕ) (kind : ℕ) (named : Bool) where
               ∙ ap (λ (ms : List ℕ). joined f (faults s sw kind named p ms)) (sym (of-kind kind x e) ∙ ap (marks_in kind) (argument_is sw c k j x a is p h));
         }
 
+  module _ (k : ℕ) (f : Fault) where
+    abbrev arguments_left : ℕ → Program → List ℕ
+    arguments_left j p = from_argument kind p (instr_at p k) j
+
+    -- g is f with the faults of the arguments before argument j
+    abbrev pub ArgumentsGoing : ℕ → Fault → Type 0
+    ArgumentsGoing j g = Going s sw c kind named (arguments_left 0) (arguments_left j) f g
+
+    pub arguments-next : (j : ℕ) {g g' : Fault} → j < 3 → ArgumentsGoing j g
+        → Judges c (λ p. joined g (faults s sw kind named p (marks_in kind (arg_cell p (argument j (instr_at p k)))))) g' → ArgumentsGoing (j + 1) g'
+    arguments-next j l u t =
+        going_on s sw c kind named f (arguments_left 0) (λ p. marks_in kind (arg_cell p (argument j (instr_at p k)))) u (λ p h. argument-next kind p (instr_at p k) j l) t
+
   module _ (k : ℕ) (f : Fault) (a : AskingAt c sw k) where
     abbrev uses_at : Program → List ℕ
     uses_at p = instr_uses kind named p (instr_at p k)
 
-    pub instr-other : (o : ℕ) → o ≡ cell (table_of c) (layout.first_instruction + 4 * k) % 64 → asked_by kind named o ≡ false → Judges c (λ p. joined f (faults s sw kind named p (uses_at p))) f
+    pub instr-other : {o : ℕ} → o ≡ cell (table_of c) (layout.first_instruction + 4 * k) % 64 → asked_by kind named o ≡ false → Judges c (λ p. joined f (faults s sw kind named p (uses_at p))) f
     unfolding instr_uses
-    instr-other o is e =
+    instr-other is e =
         record {
           is = λ p h. joined-none f
               ∙ ap (λ (b : Bool). joined f (faults s sw kind named p (cond b (instr_marks kind p (instr_at p k)) [])))
               (sym e ∙ ap (asked_by kind named) (is ∙ operator_at c p h k (code-there sw c k a p h)));
         }
 
-    -- the three arguments one after the other
-    pub instr-noted : {g b r : Fault} (o : ℕ) → o ≡ cell (table_of c) (layout.first_instruction + 4 * k) % 64 → asked_by kind named o ≡ true
-        → Judges c (λ p. joined f (faults s sw kind named p (marks_in kind (arg_cell p (argument 0 (instr_at p k)))))) g
-        → Judges c (λ p. joined g (faults s sw kind named p (marks_in kind (arg_cell p (argument 1 (instr_at p k)))))) b
-        → Judges c (λ p. joined b (faults s sw kind named p (marks_in kind (arg_cell p (argument 2 (instr_at p k)))))) r
-        → Judges c (λ p. joined f (faults s sw kind named p (uses_at p))) r
+    -- all of them
+    pub instr-noted : {g : Fault} {o : ℕ} → o ≡ cell (table_of c) (layout.first_instruction + 4 * k) % 64 → asked_by kind named o ≡ true → ArgumentsGoing k f 3 g
+        → Judges c (λ p. joined f (faults s sw kind named p (uses_at p))) g
     unfolding instr_uses
-    instr-noted {g} {b} o is e x y z =
+    instr-noted is e u =
         record {
-          is = λ p h. let i : Instr = instr_at p k in
-              let m : ℕ → List ℕ = λ j. marks_in kind (arg_cell p (argument j i)) in
-              let v : List ℕ → List ℕ = faults s sw kind named p in
-              z.is p h ∙ ap (λ (d : Fault). joined d (v (m 2))) (y.is p h) ∙ faults-join s sw kind named p g (m 1) (m 2)
-              ∙ ap (λ (d : Fault). joined d (v (m 1 ++ m 2))) (x.is p h) ∙ faults-join s sw kind named p f (m 0) (m 1 ++ m 2)
-              ∙ ap (λ (b : Bool). joined f (v (cond b (instr_marks kind p i) []))) (sym e ∙ ap (asked_by kind named) (is ∙ operator_at c p h k (code-there sw c k a p h)));
+          is = λ p h. (going-over s sw c kind named f (arguments_left k f 0) u (λ p h. refl)).is p h
+              ∙ ap (λ (b : Bool). joined f (faults s sw kind named p (cond b (instr_marks kind p (instr_at p k)) [])))
+              (sym e ∙ ap (asked_by kind named) (is ∙ operator_at c p h k (code-there sw c k a p h)));
         }
+
+-- the number of instruction k's operator is that of an operator
+pub operator-there : {c sw : List ℕ} {k n : ℕ} → AskingAt c sw k → n ≡ cell (table_of c) (layout.first_instruction + 4 * k) % 64 → (0 < n) × (n ≤ 41)
+operator-there {c} {sw} {k} a e =
+    let p : Program = a.asking.program in
+    rw (e ∙ operator_at c p a.asking.holds k a.there) (operator-range (instr_at p k).op)

@@ -2,30 +2,28 @@
 // Until then the table has the marks of the names that are used.
 #![tactic(auto)]
 
-ghost use Rattle.std.specs.Prelude.{◌≡◌, true, cond, [], ◌∷◌, length, take, position};
+ghost use Rattle.std.specs.Prelude.{◌≡◌, true, cond, [], ◌∷◌, length, take, get_or, ◌&&◌, ◌+◌, ◌*◌, ◌<◌};
 ghost use Rattle.layout.specs.ArgumentKinds.{number};
 ghost use Rattle.layout.specs.Kinds.{label_kind};
-ghost use Rattle.layout.specs.Table.{arg_cell, all_entries};
+ghost use Rattle.layout.specs.Places.{first_instruction};
+ghost use Rattle.layout.specs.Table.{arg_cell, all_entries, switch_in};
+ghost use Rattle.language.specs.Instructions.{number_of};
+ghost use Rattle.language.specs.Operators.{op_by};
 ghost use Rattle.language.specs.Program.{instr_at};
-ghost use Rattle.lists.specs.Lists.{each, bytes_equal};
+ghost use Rattle.lists.specs.Lists.{ahead, each, bytes_equal};
 ghost use Rattle.drafts.specs.Marks.{place_by, word_by};
+ghost use Rattle.packed.specs.Packed.{table_of};
+ghost use Rattle.std.specs.Bool.{beq};
 ghost use Rattle.finding.specs.Finding.{Counted, Locates, Tells};
 ghost use Rattle.writing.specs.Writing.{Changes};
-ghost use Rattle.linking.specs.Lookup.{label_by, is_switch, role_kind, role_named, joined, known, faults, marks_in, argument, names_number, asked_by, instr_uses, Asking, AskingAt, AskingFor, Judges};
+ghost use Rattle.linking.specs.Lookup.{label_by, is_switch, role_kind, role_named, joined, known, faults, marks_in, argument, names_number, asked, instr_uses, Asking, AskingAt, AskingFor, Judges};
 ghost use Rattle.linking.specs.Resolving.{argument_resolved, instr_resolved, code_resolved, entries_resolved, Labelling};
 ghost use Rattle.linking.specs.Linking.{Kept, Finds, label_places, switch_places, Links};
 
 use language::Operator;
 use layout::{ArgumentKind, TablePlaces};
-use statements::{Fault, lower, rebuilt};
+use statements::{Fault, Question, Refusal, Verdict, lower};
 use table::Table;
-
-// The lowest place of a label (12) or of a switch (13) that is used and not declared.
-#[derive(Clone, Copy)]
-pub enum Missing {
-    Label(usize),
-    Switch(usize),
-}
 
 // What an argument uses a name as: a label, a switch by name, or a switch by index.
 #[derive(Clone, Copy)]
@@ -68,32 +66,39 @@ fn label_for(text: &[u8], table: Table, m: usize) -> usize
     label_place(text, table, m).unwrap_or(table.labels())
 }
 
-// The place of the switch that `m` names, by the marks of their names.
-fn switch_place(text: &[u8], names: &[u32], m: usize) -> Option<usize>
-    ensures { result ≡ position (λ x. bytes_equal (word_by text.now m) (word_by text.now x)) names.now }
+// What the mark `m` of a switch becomes, by the marks of the switches' names: the switch's place, or their count where there is none.
+fn switch_for(text: &[u8], names: &[u32], m: usize) -> usize
+    ensures { result ≡ ahead (λ x. bytes_equal (word_by text.now m) (word_by text.now x)) names.now }
 {
     names
         .iter()
         .position(|name| same_name(text, m, *name as usize))
+        .unwrap_or(names.len())
+}
+
+// The cell of argument `j` of instruction `k`.
+fn cell_at(table: Table, k: usize, j: usize) -> usize
+    requires { (k < 512) × (j < 3) }
+    ensures { result ≡ get_or table.entry.cells.now (first_instruction + 4 * k + 1 + j) 0 }
+{
+    table.cells[TablePlaces::FIRST_INSTRUCTION + 4 * k + 1 + j] as usize
 }
 
 // The lower of the place at fault so far and the mark's, where that is at fault.
-// Here and below a fault is made anew by `rebuilt`, since a plain copy is slower, as `statements` says.
 fn note(f: Fault, fine: bool, m: usize) -> Fault
     ensures { result ≡ joined f (cond fine [] (place_by m ∷ [])) }
 {
-    if fine {
-        return rebuilt(f);
-    }
-    lower(f, Some(m / 64))
+    if fine { f } else { lower(f, Some(m / 64)) }
 }
 
 // Whether the instructions of an operator take a switch by name.
-fn takes_named(operator: u8) -> bool
-    ensures { result ≡ names_number operator }
+fn takes_named(operator: Operator) -> bool
+    ensures { result ≡ names_number (number_of (op_by operator)) }
 {
-    (operator == u8::from(Operator::SKONA))
-        | ((operator == u8::from(Operator::WYNA)) | (operator == u8::from(Operator::SZUKAJ)))
+    matches!(
+        operator,
+        Operator::SKONA | Operator::WYNA | Operator::SZUKAJ
+    )
 }
 
 // The kind of the arguments that use names so.
@@ -107,8 +112,8 @@ fn kind(role: Role) -> ArgumentKind
 }
 
 // Labels are asked of all instructions, switches of a type of those whose operators take it.
-fn is_asked(role: Role, operator: u8) -> bool
-    ensures { result ≡ asked_by (role_kind role) (role_named role) operator }
+fn is_asked(role: Role, operator: Operator) -> bool
+    ensures { result ≡ asked (role_kind role) (role_named role) (op_by operator) }
 {
     match role {
         Role::Label => true,
@@ -126,19 +131,20 @@ struct Draft<'a, 'b> {
 }
 
 impl<'a, 'b> Draft<'a, 'b> {
-    // Whether `m` names a switch of the type.
+    // Whether `m` names switch `k`, and that is of the type.
+    fn names_switch(&self, named: bool, m: usize, k: usize) -> bool
+        requires { (length self.now.names.now ≡ 32) × (k < 32) }
+        ensures { result ≡ (bytes_equal (word_by self.now.text.now m) (word_by self.now.text.now (get_or self.now.names.now k 0)) && beq named (switch_in (table_of self.now.table.cells.now) k).goes_by_name) }
+    {
+        same_name(self.text, m, self.names[k] as usize) & (named == self.table.switch_by_name(k))
+    }
+
+    // Whether `m` names a switch of the type. `named` is the program's `goes_by_name`, a Bool, so an enum would add a mapping.
     fn has_switch(&self, named: bool, m: usize) -> bool
         requires { Asking self.now.table.cells.now self.now.names.now }
         ensures { Judges self.now.table.cells.now (λ p. is_switch self.now.text.now named m self.now.names.now p.switches) result }
     {
-        for k in 0..self.table.switches() {
-            if same_name(self.text, m, self.names[k] as usize)
-                & (named == self.table.switch_by_name(k))
-            {
-                return true;
-            }
-        }
-        false
+        (0..self.table.switches()).any(|k| self.names_switch(named, m, k))
     }
 
     // Whether the mark `m` names a label or a switch that can be used so.
@@ -158,9 +164,9 @@ impl<'a, 'b> Draft<'a, 'b> {
         requires { AskingFor self.now.table.cells.now self.now.names.now k j }
         ensures { Judges self.now.table.cells.now (λ p. joined f (faults self.now.text.now self.now.names.now (role_kind role) (role_named role) p (marks_in (role_kind role) (arg_cell p (argument j (instr_at p k)))))) result }
     {
-        let x = self.table.cells[TablePlaces::FIRST_INSTRUCTION + 4 * k + 1 + j] as usize;
+        let x = cell_at(self.table, k, j);
         if x % 8 != usize::from(kind(role)) {
-            return rebuilt(f);
+            return f;
         }
         let m = x / 8;
         note(f, self.is_known(role, m), m)
@@ -171,12 +177,15 @@ impl<'a, 'b> Draft<'a, 'b> {
         requires { AskingAt self.now.table.cells.now self.now.names.now k }
         ensures { Judges self.now.table.cells.now (λ p. joined f (faults self.now.text.now self.now.names.now (role_kind role) (role_named role) p (instr_uses (role_kind role) (role_named role) p (instr_at p k)))) result }
     {
-        if is_asked(role, self.table.operator(k)) {
-            let a = self.argument_fault(role, k, 0, f);
-            let b = self.argument_fault(role, k, 1, a);
-            return self.argument_fault(role, k, 2, b);
+        let operator = Operator::try_from(self.table.operator(k)).unwrap();
+        if !is_asked(role, operator) {
+            return f;
         }
-        rebuilt(f)
+        let mut g = f;
+        for j in 0..3 {
+            g = self.argument_fault(role, k, j, g);
+        }
+        g
     }
 
     // The lowest place where an instruction uses a name that is not declared, or that of `f`.
@@ -224,23 +233,23 @@ impl<'a, 'b> Draft<'a, 'b> {
     }
 }
 
-// Argument `j` of instruction `k`: its name becomes a place.
-// A branch for each kind: a label is looked up in the table, a switch by the marks in `sw`.
+// Argument `j` of instruction `k`: its name becomes a place. A label is looked up in the table, a switch by the marks in `sw`.
 fn resolve_argument(text: &[u8], table: &mut [u32], sw: &[u32], k: usize, j: usize)
     requires { AskingFor table.old sw.now k j }
     ensures { Changes (argument_resolved text.now sw.now k j) table.old table.new }
 {
-    let x = table[TablePlaces::FIRST_INSTRUCTION + 4 * k + 1 + j] as usize;
-    if x % 8 == usize::from(ArgumentKind::Label) {
-        let v = label_for(text, Table { cells: table }, x / 8);
-        writing::set_argument(table, k, j, ArgumentKind::Label.cell(v));
-        return;
-    }
-    if x % 8 == usize::from(ArgumentKind::Switch) {
-        let n = Table { cells: table }.switches();
-        let v = switch_place(text, &sw[..n], x / 8).unwrap_or(n);
-        writing::set_argument(table, k, j, ArgumentKind::Switch.cell(v));
-        return;
+    let draft = Table { cells: table };
+    let x = cell_at(draft, k, j);
+    match ArgumentKind::try_from(x % 8) {
+        Ok(ArgumentKind::Label) => {
+            let v = label_for(text, draft, x / 8);
+            writing::set_argument(table, k, j, ArgumentKind::Label.cell(v));
+        }
+        Ok(ArgumentKind::Switch) => {
+            let v = switch_for(text, &sw[..draft.switches()], x / 8);
+            writing::set_argument(table, k, j, ArgumentKind::Switch.cell(v));
+        }
+        _ => {}
     }
 }
 
@@ -249,9 +258,9 @@ fn resolve_instruction(text: &[u8], table: &mut [u32], sw: &[u32], k: usize)
     requires { AskingAt table.old sw.now k }
     ensures { Changes (instr_resolved text.now sw.now k) table.old table.new }
 {
-    resolve_argument(text, table, sw, k, 0);
-    resolve_argument(text, table, sw, k, 1);
-    resolve_argument(text, table, sw, k, 2);
+    for j in 0..3 {
+        resolve_argument(text, table, sw, k, j);
+    }
 }
 
 // All arguments of all instructions.
@@ -278,12 +287,7 @@ fn resolve_entries(text: &[u8], table: &mut [u32], en: &[u32])
 }
 
 // Questions 12 and 13 in this order; where both are answered yes, the table holds the program.
-pub fn resolve<'a>(
-    text: &'a [u8],
-    table: &mut [u32],
-    sw: &'a [u32],
-    en: &[u32],
-) -> Result<(), Missing>
+pub fn resolve<'a>(text: &'a [u8], table: &mut [u32], sw: &'a [u32], en: &[u32]) -> Verdict
     requires { Kept text.now table.old sw.now en.now }
     ensures { Links text.now table.old sw.now en.now result table.new }
 {
@@ -292,11 +296,17 @@ pub fn resolve<'a>(
         table: Table { cells: table },
         names: sw,
     };
-    if let Some(p) = draft.undeclared_label(en) {
-        return Err(Missing::Label(p));
+    if let Some(at) = draft.undeclared_label(en) {
+        return Err(Refusal {
+            question: Question::Label,
+            at,
+        });
     }
-    if let Some(p) = draft.undeclared_switch(en) {
-        return Err(Missing::Switch(p));
+    if let Some(at) = draft.undeclared_switch(en) {
+        return Err(Refusal {
+            question: Question::Switch,
+            at,
+        });
     }
     resolve_code(text, table, sw);
     resolve_entries(text, table, en);

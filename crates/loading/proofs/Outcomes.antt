@@ -18,7 +18,9 @@ use Rattle.language.specs.Limits as limit
 use Rattle.layout.specs.Table.{table_cells}
 use Rattle.finishing.specs.Below.ProgressTypeProgress.{Progress}
 use Rattle.reading_statements.specs.ReadingStatements.{Read}
+use Rattle.statements.specs.Questions.{question_number}
 use Rattle.statements.specs.declared.Refusal.{Refusal}
+use Rattle.statements.specs.declared.Rejected.{Rejected}
 use Rattle.std.specs.Prelude.{Ok, Err}
 use Rattle.syntax.specs.Ending.{last_place, last_questions}
 use Rattle.syntax.specs.Items.{lines_of, line_at}
@@ -29,7 +31,6 @@ use Rattle.syntax.specs.Verdict.{first_no}
 use Rattle.writing.specs.Writing.{Cleared}
 use Rattle.loading.specs.Texts.{Unread, ReadsText, Loadable, LoadsText, Refuses, Lent, Leaves, Fit}
 use Rattle.loading.specs.Told.{Loaded, told}
-use Rattle.loading.specs.declared.Rejected.{Rejected}
 
 -- ---- a text from its beginning to its end
 
@@ -58,7 +59,7 @@ module _ {s lines names c : List ℕ} (h : Loadable s lines names c) where
     pub text-refused : (f : Refusal) → r ≡ Err f → LoadsText s lines c (Err f) c'
     text-refused f e =
         record {
-          refused = λ g q. let a : f ≡ g = cc in k.refused f e ∙ ap (λ (m : Refusal). spec.Loaded.refused m.number (line_at lines m.at)) a;
+          refused = λ g q. let a : f ≡ g = cc in k.refused f e ∙ ap (λ (m : Refusal). spec.Loaded.refused (question_number m.question) (line_at lines m.at)) a;
           accepted = λ q. absurd (let z : ◌≡◌ {A = ℕ} 0 1 = cc in omega arith);
           beyond = k.beyond;
         }
@@ -111,16 +112,16 @@ module _ {s lines names c : List ℕ} (h : Lent s lines names c) {c₁ : List �
               ∙ sym (ap (λ t. table_after t c) q);
         }
 
-    pub load-refused : (f : Refusal) → v ≡ Err f → {r : Rejected} {d : List ℕ} → Refuses lines f.number f.at c₂ r d → Leaves (text_loads s lines) c (Err r) d
+    pub load-refused : (f : Refusal) → v ≡ Err f → {r : Rejected} {d : List ℕ} → Refuses lines f.question f.at c₂ r d → Leaves (text_loads s lines) c (Err r) d
     unfolding table_after
     load-refused f e {r} {d} w =
         let q = t.refused f e in
-        let n : f.number ≢ 40 = listed-not_40 (text_loads s lines) (text-listed lines h.lined s) f.number (line_at lines f.at) q in
+        let n : question_number f.question ≢ 40 = listed-not_40 (text_loads s lines) (text-listed lines h.lined s) (question_number f.question) (line_at lines f.at) q in
         record {
-          is = (λ i. Err (record { number = w.number_is i; line = w.line_is i })) ∙ sym (ap told q);
+          is = (λ i. Err (question_number (w.question_is i), w.line_is i)) ∙ sym (ap told q);
           cells_are =
               sym (take-append-drop limit.table d)
               ∙ ap (λ (x : List ℕ). x ++ drop limit.table d) w.cleared.zeros
               ∙ ap (λ (x : List ℕ). replicate limit.table 0 ++ x) (w.cleared.beyond ∙ t.beyond ∙ z.beyond)
-              ∙ sym (ap (λ t. table_after t c) q ∙ ap (λ (b : Bool). cond b c (replicate limit.table 0 ++ drop limit.table c)) (ne_eqb f.number 40 n));
+              ∙ sym (ap (λ t. table_after t c) q ∙ ap (λ (b : Bool). cond b c (replicate limit.table 0 ++ drop limit.table c)) (ne_eqb (question_number f.question) 40 n));
         }

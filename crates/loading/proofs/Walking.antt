@@ -4,7 +4,7 @@ use mathlib.Core.Bool.{Bool, true, false, cond, not}
 use Rattle.std.specs.Bool.{then_some}
 use Rattle.std.proofs.lemmas.Option.{none-some}
 use mathlib.Core.List.{List, []}
-use Prim.Native.Nat.{ℕ, ◌≤◌, ◌<◌}
+use Prim.Native.Nat.{ℕ, ◌+◌, ◌-◌, ◌≤◌, ◌<◌}
 use native.Mathlib.Omega.{arith}
 use lib.ListN.{length, drop}
 use Rattle.language.specs.Limits as limit
@@ -14,7 +14,7 @@ use Rattle.finishing.specs.Below.ProgressTypeProgress.{Progress}
 use Rattle.reading_statements.specs.ReadingStatements.{Read, read_verdict, Standing, Readable, ReadsStatement}
 use Rattle.reading_statements.specs.declared.Answer.{Answer}
 use Rattle.statements.specs.declared.Refusal.{Refusal}
-use Rattle.std.specs.Prelude.{Ok, Err, None, Some}
+use Rattle.std.specs.Prelude.{Ok, Err, Option, None, Some}
 use Rattle.statements.specs.StatementAt.{statements_at, statement_at}
 use Rattle.syntax.specs.Ending.{last_place}
 use Rattle.syntax.specs.Items.{Item}
@@ -58,6 +58,20 @@ next-by : (b : Bool) (m : ℕ) {j : ℕ} → Some j ≡ then_some (not b) m → 
 next-by true m e = absurd (none-some _ (sym e))
 next-by false m e = (refl, cc)
 
+-- the same where another statement begins, if one does; else all were read
+abbrev pub Walks : List ℕ → List ℕ → List ℕ → Option ℕ → Progress → List ℕ → List ℕ → List ℕ → List ℕ → Type 0
+Walks s lines c₀ None g ms c sw en = ReadsText s lines c₀ (Ok g) ms c sw en
+Walks s lines c₀ (Some n) g ms c sw en = Going s lines c₀ n g ms c sw en
+
+-- how much is left to read
+abbrev pub left_of : ℕ → Option ℕ → ℕ
+left_of size None = 0
+left_of size (Some n) = 1 + (size - n)
+
+module _ {s lines c₀ : List ℕ} {next : Option ℕ} {g : Progress} {ms c sw en : List ℕ} (u : Walks s lines c₀ next g ms c sw en) where
+  pub going-at : {n : ℕ} → next ≡ Some n → Going s lines c₀ n g ms c sw en
+  going-at e = subst (λ (x : Option ℕ). Walks s lines c₀ x g ms c sw en) e u
+
 -- the statement at n is read
 module _ {s lines c₀ : List ℕ} {n : ℕ} {g : Progress} {ms c sw en : List ℕ} (u : Going s lines c₀ n g ms c sw en) where
   pub readable : Readable s lines n g ms c sw en
@@ -90,7 +104,7 @@ module _ {s lines c₀ : List ℕ} {n : ℕ} {g : Progress} {ms c sw en : List �
           beyond = k.beyond ∙ u.beyond;
         }
 
-    pub next-beyond : {j : ℕ} → Some j ≡ a.next → (n < j) × (j ≤ length s)
+    next-beyond : {j : ℕ} → Some j ≡ a.next → (n < j) × (j ≤ length s)
     next-beyond t = let i = next-by k.ends.last k.ends.next (t ∙ k.ends.is) in (rw i.1 (k.ends.ended.more i.0), rw i.1 k.ends.ended.most)
 
     module _ (q : Progress) (e : r ≡ Ok q) where
@@ -98,7 +112,7 @@ module _ {s lines c₀ : List ℕ} {n : ℕ} {g : Progress} {ms c sw en : List �
       unfolding unless_refused
       after_it = by-verdict ∙ ap (λ x. unless_refused lines (read_verdict x) (load_from lines (last_place s) (draft_after u.draft here) rest_of)) e
 
-      pub going-last : None ≡ a.next → ReadsText s lines c₀ (Ok q) ms' c' sw' en'
+      going-last : None ≡ a.next → ReadsText s lines c₀ (Ok q) ms' c' sw' en'
       going-last t =
           record {
             refused = λ f z. absurd (not-read f q (sym z));
@@ -114,7 +128,7 @@ module _ {s lines c₀ : List ℕ} {n : ℕ} {g : Progress} {ms c sw en : List �
           same : {a b : Progress} → ◌≡◌ {A = Read} (Ok a) (Ok b) → a ≡ b
           same e = cc
 
-      pub going_next : {j : ℕ} → Some j ≡ a.next → Going s lines c₀ j q ms' c' sw' en'
+      going_next : {j : ℕ} → Some j ≡ a.next → Going s lines c₀ j q ms' c' sw' en'
       going_next {j} t =
           let i = next-by k.ends.last k.ends.next (t ∙ k.ends.is) in
           record {
@@ -129,3 +143,17 @@ module _ {s lines c₀ : List ℕ} {n : ℕ} {g : Progress} {ms c sw en : List �
             left = after_it ∙ ap (λ (b : Bool). load_from lines (last_place s) (draft_after u.draft here) (cond b [] (statements_at s k.ends.next))) i.0 ∙ ap (λ (m : ℕ). load_from lines (last_place s) (draft_after u.draft here) (statements_at s m)) (sym i.1);
             beyond = k.beyond ∙ u.beyond;
           }
+
+      pub walks-on : Walks s lines c₀ a.next q ms' c' sw' en'
+      walks-on = go a.next refl
+        where
+          go : (x : Option ℕ) → x ≡ a.next → Walks s lines c₀ x q ms' c' sw' en'
+          go None t = going-last t
+          go (Some j) t = going_next t
+
+    pub falls : {x : Option ℕ} → x ≡ Some n → left_of (length s) a.next < left_of (length s) x
+    falls e = subst (λ (x : Option ℕ). left_of (length s) a.next < left_of (length s) x) (sym e) (go a.next refl)
+      where
+        go : (x : Option ℕ) → x ≡ a.next → left_of (length s) x < left_of (length s) (Some n)
+        go None t = omega arith
+        go (Some j) t = let e = next-beyond t in omega (arith, e.0, e.1)

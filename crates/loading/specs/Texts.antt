@@ -8,15 +8,17 @@ use Rattle.language.specs.Program.{Program}
 use Rattle.finishing.specs.Below.Progress.{Drafted}
 use Rattle.finishing.specs.Below.ProgressTypeProgress.{Progress}
 use Rattle.reading_statements.specs.ReadingStatements.{Read}
+use Rattle.statements.specs.Questions.{question_number}
+use Rattle.statements.specs.declared.Question.{Question}
 use Rattle.statements.specs.declared.Refusal.{Refusal}
+use Rattle.statements.specs.declared.Rejected.{Rejected}
 use Rattle.syntax.specs.Ending.{last_place}
 use Rattle.syntax.specs.Items.{line_at, lines_of}
 use Rattle.syntax.specs.Load as spec
 use Rattle.syntax.specs.Load.{load_from, Lined, text_loads}
 use Rattle.syntax.specs.Tables.{Draft, blank}
 use Rattle.writing.specs.Writing.{HoldsProgram, Cleared, no_program}
-use Rattle.loading.specs.Told.{Loaded, told}
-use Rattle.loading.specs.declared.Rejected.{Rejected}
+use Rattle.loading.specs.Told.{Loaded, numbered, told}
 
 -- ---- the lines of a text
 
@@ -43,7 +45,7 @@ pub record ReadTo (s lines : List ℕ) (g : Progress) (ms c sw en : List ℕ) : 
   pub left : text_loads s lines ≡ load_from lines (last_place s) draft []
 
 pub record ReadsText (s lines c : List ℕ) (r : Read) (ms' c' sw' en' : List ℕ) : Type 0 where
-  pub refused : (e : Refusal) → r ≡ Err e → text_loads s lines ≡ spec.Loaded.refused e.number (line_at lines e.at)
+  pub refused : (e : Refusal) → r ≡ Err e → text_loads s lines ≡ spec.Loaded.refused (question_number e.question) (line_at lines e.at)
   pub read : (g : Progress) → r ≡ Ok g → ReadTo s lines g ms' c' sw' en'
   pub beyond : drop limit.table c' ≡ drop limit.table c
 
@@ -61,15 +63,15 @@ pub record Accepts (s lines d : List ℕ) : Type 0 where
   pub holds : HoldsProgram d program
 
 pub record LoadsText (s lines c : List ℕ) (r : Verdict) (d : List ℕ) : Type 0 where
-  pub refused : (f : Refusal) → r ≡ Err f → text_loads s lines ≡ spec.Loaded.refused f.number (line_at lines f.at)
+  pub refused : (f : Refusal) → r ≡ Err f → text_loads s lines ≡ spec.Loaded.refused (question_number f.question) (line_at lines f.at)
   pub accepted : r ≡ Ok tt → Accepts s lines d
   pub beyond : drop limit.table d ≡ drop limit.table c
 
 -- ---- a refusal
 
--- number and line, and zeros
-pub record Refuses (lines : List ℕ) (number at : ℕ) (c : List ℕ) (r : Rejected) (d : List ℕ) : Type 0 where
-  pub number_is : r.number ≡ number
+-- question and line, and zeros
+pub record Refuses (lines : List ℕ) (question : Question) (at : ℕ) (c : List ℕ) (r : Rejected) (d : List ℕ) : Type 0 where
+  pub question_is : r.question ≡ question
   pub line_is : r.line ≡ line_at lines at
   pub cleared : Cleared c d
 
@@ -83,7 +85,7 @@ pub record Lent (s lines ms c : List ℕ) : Type 0 where
 
 -- r is the answer of x, and d is what x leaves in the cells c of the table
 pub record Leaves (x : spec.Loaded) (c : List ℕ) (r : Loaded) (d : List ℕ) : Type 0 where
-  pub is : r ≡ told x
+  pub is : numbered r ≡ told x
   pub cells_are : d ≡ table_after x c
 
 -- the same of a text as it stands, with its own lines

@@ -6,19 +6,12 @@ ghost use Rattle.language.specs.Limits as limit;
 ghost use Rattle.syntax.specs.Load.{text_loads, load_typed};
 ghost use Rattle.loading.specs.Texts.{Fillable, Fills, Unread, ReadsText, Loadable, LoadsText, Refuses, Lent, Leaves, Fit};
 
-use finishing::from_progress::{Progress, begin, renewed};
+use finishing::from_progress::{Progress, begin};
 use language::Machine;
 use lexer::line_at;
 use reading_statements::read_statement;
-use statements::{Refusal, Verdict};
+use statements::{Refusal, Rejected, Verdict};
 use writing::clear_table;
-
-// The number and the line of the first question answered no.
-#[derive(Clone, Copy)]
-pub struct Rejected {
-    pub number: u8,
-    pub line: u32,
-}
 
 // The text is accepted, or it is rejected.
 pub type Loaded = Result<(), Rejected>;
@@ -35,7 +28,7 @@ fn fill_lines(text: &[u8], lines: &mut [u16])
     }
 }
 
-// All statements, one after the other.
+// All statements, one after the other. The rows are lent one by one, as `read_statement` takes them.
 fn read_statements(
     text: &[u8],
     lines: &[u16],
@@ -48,16 +41,13 @@ fn read_statements(
     ensures { ReadsText text.now lines.now table.old result names.new table.new switches.new entries.new }
 {
     let mut p = begin();
-    let mut n = 0;
-    loop {
+    let mut next = Some(0);
+    while let Some(n) = next {
         let a = read_statement(text, lines, n, p, names, table, switches, entries);
-        let q = a.read?;
-        let Some(next) = a.next else {
-            return Ok(q);
-        };
-        n = next;
-        p = renewed(q);
+        p = a.read?;
+        next = a.next;
     }
+    Ok(p)
 }
 
 // Reads a text on a table of zeros, with room for its switches and their entries, and with a row for the names of its labels.
@@ -72,13 +62,14 @@ fn load_text(text: &[u8], lines: &[u16], names: &mut [u32], table: &mut [u32]) -
 }
 
 // "after other refusals its 8,192 cells are zeros"
+// Not one with `answered` of `macro_preparing`: that finds the line in the text and has no table to clear.
 fn refuse(lines: &[u16], r: Refusal, cells: &mut [u32]) -> Rejected
     requires { limit.table ≤ length cells.old }
-    ensures { Refuses lines.now r.number r.at cells.old result cells.new }
+    ensures { Refuses lines.now r.question r.at cells.old result cells.new }
 {
     clear_table(cells);
     Rejected {
-        number: r.number,
+        question: r.question,
         line: u32::from(line_at(lines, r.at)),
     }
 }

@@ -1,4 +1,5 @@
 -- Marks one by one: the lowest place, and questions 06 and 70.
+use Rattle.std.specs.Bool.{then_some}
 use Rattle.std.specs.Prelude.{None, Some}
 use Rattle.std.proofs.lemmas.List.Folds.{list_any-append}
 use mathlib.Core.Path.{◌≡◌, refl, sym, ap, ◌∙◌}
@@ -27,6 +28,10 @@ lowest-more of ms ps m x a b q = q ∙ (λ j. lower (a j) (b j)) ∙ sym (fault-
 pub mark-more : (ms : List ℕ) (m : ℕ) {f r : Fault} → f ≡ fault_of (map place_by ms) → r ≡ lower f (Some (place_by m)) → r ≡ fault_of (map place_by (ms ++ (m ∷ [])))
 unfolding lowest
 mark-more ms m a q = lowest-more (map place_by) ms (place_by m ∷ []) m (map-append place_by ms (m ∷ [])) a refl q
+
+pub chosen : (b : Bool) (p : ℕ) → then_some b p ≡ cond b (Some p) None
+chosen true p = refl
+chosen false p = refl
 
 -- question 06: one mark
 pub own-asked : (s : List ℕ) (xs ys : List (List ℕ)) (m : ℕ) → {p q b : Bool} → p ≡ any (bytes_equal (take (m % 64) (drop (m / 64) s))) xs

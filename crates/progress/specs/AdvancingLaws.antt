@@ -39,7 +39,7 @@ use Rattle.lists.specs.Quoted.{bytes}
 use Rattle.lists.specs.ListLaws.{T-left, T-right}
 use Rattle.progress.specs.Progress.{SectionKept, EditionKept}
 use Rattle.statements.specs.StatementAt.{statement_at, fault_of}
-use Rattle.statements.specs.Faults.{Fault}
+use Rattle.statements.specs.Faults.{Fault, Verdict}
 use Rattle.std.specs.Prelude.{Option, None, Some}
 use Rattle.std.specs.Option.{is_none}
 use Rattle.syntax.specs.Items.{Item, is}
@@ -164,7 +164,7 @@ module _ (s : List ℕ) (n : ℕ) where
       ap (λ (b : Bool). cond b (head_or [] (contents (rest y))) d.section) k.first_is in
       record { first_is = ap (λ (w : List ℕ). not (filled w)) e ∙ k.first_is; there = k.there; is = k.is ∙ sym e }
 
-  module _ {h : Head} {w : ℕ} {r : Rest} (g : Headed s n h) (o : Rests s h.op w r) (inside : n ≤ length s)
+  module _ {h : Head} {w : Verdict} {r : Rest} (g : Headed s n h) (o : Rests s h.op w r) (inside : n ≤ length s)
       (short : Each (λ i. length i.chars ≤ limit.item) y) where
     rest_by : (f : Option Token) → r.first ≡ f → rest y ≡ from_first s f
     rest_by f e = rest-follows g ∙ sym o.items ∙ ap (from_first s) e

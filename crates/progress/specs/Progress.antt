@@ -1,6 +1,7 @@
 -- A text while it is read: how the loader keeps the specification's draft.
 use Rattle.std.specs.Prelude.{◌≡◌, Bool, true, false, List, map, ℕ, ◌-◌, ◌≤◌, ◌<◌, length, get_or, take}
 use Rattle.acceptance.specs.Drafts.{SoundDraft}
+use Rattle.words.specs.Keywords.{is_english}
 use Rattle.progress.specs.Closing.{TellsClosing, unended}
 use Rattle.std.specs.Prelude.{Option}
 use Rattle.std.specs.Option.{is_none}
@@ -43,7 +44,7 @@ pub record EditionKept (d : Draft) (english : Bool) : Type 0 where
 -- g, with the marks ms of the labels, tells the draft d but for its tables
 pub record TellsDraft (s : List ℕ) (d : Draft) (g : Progress) (ms : List ℕ) : Type 0 where
   pub section : SectionKept s d g.section
-  pub edition : EditionKept d g.english
+  pub edition : EditionKept d (is_english g.edition)
   pub names : NamesKept s d g.names ms
   pub waiting : WaitingKept s d g.names g.waiting ms
   pub closing : TellsClosing d.closing g.closing

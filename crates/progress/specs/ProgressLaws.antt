@@ -17,6 +17,7 @@ use Rattle.syntax.specs.Items.{Item, is}
 use Rattle.syntax.specs.Items.Sort.{word}
 use Rattle.syntax.specs.Statements.{is_operator, front, labels_in, operator}
 use Rattle.syntax.specs.Tables.{Draft, contents, draft_after}
+use Rattle.words.specs.declared.Edition.{Edition}
 use Rattle.progress.specs.Progress.{Before, Begun}
 
 -- whether there is no section yet
@@ -30,7 +31,7 @@ none-asked false (Some m) e = refl
 
 pub begun : Begun (record {
   section = None;
-  english = false;
+  edition = Edition.Polish;
   names = 0;
   waiting = 0;
   closing = record { kons = false; konp = false; early = None; fault = None };

@@ -6,7 +6,7 @@ use Rattle.std.proofs.Math.Bool.{Bool, cond}
 use mathlib.Core.List.{List, [], map}
 use Rattle.std.proofs.lemmas.List.{length-map}
 use Rattle.std.specs.Option.{is_none}
-use Rattle.words.specs.Keywords.{is_own}
+use Rattle.words.specs.Keywords.{is_english, is_own}
 use Rattle.progress.specs.Closing.{TellsClosing, Closed, closing_then}
 use Rattle.progress.specs.declared.Closing.{Closing}
 use Rattle.headings.specs.Below.DraftsMarks.{marks_in}
@@ -73,7 +73,7 @@ module _ {s : List ℕ} {n : ℕ} {g : Progress} {h : Head} {ms : List ℕ} {a b
 
 -- the parts together
 pub advances : {s : List ℕ} {n : ℕ} {g : Progress} {h : Head} {ms : List ℕ} {a b : ℕ} {r : Progress} {labels : Fault}
-    → Headed s n h → a ≤ b → b ≤ length ms → SectionTold s n g.section r.section → r.english ≡ cond (is_none g.section) (is_own true h.known) g.english → r.names ≡ b → r.waiting ≡ cond (stops h.op.sort) (b - a) 0
+    → Headed s n h → a ≤ b → b ≤ length ms → SectionTold s n g.section r.section → is_english r.edition ≡ cond (is_none g.section) (is_own true h.known) (is_english g.edition) → r.names ≡ b → r.waiting ≡ cond (stops h.op.sort) (b - a) 0
     → labels ≡ fault_of (map place_by (marks_in ms a b)) → Closed s n g.section labels g.closing r.closing → EndedTold s n g.ended r.ended
     → Advances s n g ms a b r
 advances {s} {n} {g} {h} {ms} {a} {b} {r} f order most section english names waiting e closing ended d k =

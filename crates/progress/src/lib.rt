@@ -3,7 +3,7 @@
 
 ghost use Rattle.std.specs.Prelude.{◌≡◌, true, cond, [], ◌∷◌, ◌-◌, ◌≤◌};
 ghost use Rattle.std.specs.Option.{is_none};
-ghost use Rattle.words.specs.Keywords.{is_own};
+ghost use Rattle.words.specs.Keywords.{is_english, is_own};
 ghost use Rattle.statements.specs.StatementAt.{stops, fault_of};
 ghost use Rattle.progress.specs.Closing.{fault_by, ToldClosing, Ends};
 ghost use Rattle.progress.specs.Progress.{Begun};
@@ -14,7 +14,8 @@ use forms::is_end;
 use headings::from_heads::{Head, instr_of};
 use headings::{is_konp, is_kons};
 use scanner::Sort;
-use statements::{Fault, lower, rebuilt, stops};
+use statements::{Fault, lower, stops};
+use words::Edition;
 
 // Whether KONS and KONP were met, the place of a KONP before any KONS, and the lowest place at fault.
 // Two flags and no enum of stages: each is asked alone, and a KONP without KONS is a fourth state.
@@ -26,12 +27,12 @@ pub struct Closing {
     pub fault: Fault,
 }
 
-// The mark of the section's name, none before SEKCJA; whether its edition is the English one; how many labels were met, and how many of them, the last ones, wait for their statement; how the
+// The mark of the section's name, none before SEKCJA; its edition; how many labels were met, and how many of them, the last ones, wait for their statement; how the
 // section ends; and the place of the last instruction, where a text may not end with it.
 #[derive(Clone, Copy)]
 pub struct Progress {
     pub section: Option<u32>,
-    pub english: bool,
+    pub edition: Edition,
     pub names: usize,
     pub waiting: usize,
     pub closing: Closing,
@@ -54,7 +55,7 @@ pub fn begin() -> Progress
 {
     Progress {
         section: None,
-        english: false,
+        edition: Edition::Polish,
         names: 0,
         waiting: 0,
         closing: Closing {
@@ -64,29 +65,6 @@ pub fn begin() -> Progress
             fault: None,
         },
         ended: None,
-    }
-}
-
-// The same, with its faults made from their parts: the loop of `loading` that copies it whole is slower.
-pub fn renewed(p: Progress) -> Progress
-    ensures { result ≡ p }
-{
-    let c = p.closing;
-    let early = c.early;
-    let fault = c.fault;
-    let ended = p.ended;
-    Progress {
-        section: p.section,
-        english: p.english,
-        names: p.names,
-        waiting: p.waiting,
-        closing: Closing {
-            kons: c.kons,
-            konp: c.konp,
-            early: rebuilt(early),
-            fault: rebuilt(fault),
-        },
-        ended: rebuilt(ended),
     }
 }
 
@@ -123,25 +101,26 @@ fn closing_after(head: Head, labels: Fault, after: Fault, c: Closing) -> Closing
         return c;
     }
     let konp = is_konp(keyword);
-    let early = c.early;
-    let fault = c.fault;
-    let now_early = (konp & !(c.konp | c.kons)).then_some(op.at);
-    let now_fault = closing_fault(head, labels, after, c);
+    let early = (konp & !(c.konp | c.kons)).then_some(op.at);
     Closing {
         kons: c.kons | is_kons(keyword),
         konp: c.konp | konp,
-        early: lower(early, now_early),
-        fault: lower(fault, now_fault),
+        early: lower(c.early, early),
+        fault: lower(c.fault, closing_fault(head, labels, after, c)),
     }
 }
 
-// Whether the edition is the English one: the first statement's operator chooses.
-fn english_after(head: Head, section: Option<u32>, english: bool) -> bool
-    ensures { result ≡ cond (is_none section) (is_own true head.known) english }
+// The edition: the first statement's operator chooses.
+fn edition_after(head: Head, section: Option<u32>, edition: Edition) -> Edition
+    ensures { is_english result ≡ cond (is_none section) (is_own true head.known) (is_english edition) }
 {
-    match section {
-        Some(_) => english,
-        None => head.is_own(true),
+    if section.is_some() {
+        return edition;
+    }
+    if head.is_own(Edition::English) {
+        Edition::English
+    } else {
+        Edition::Polish
     }
 }
 
@@ -150,10 +129,7 @@ fn waiting_after(sort: Option<Sort>, from: usize, to: usize) -> usize
     requires { from ≤ to }
     ensures { result ≡ cond (stops sort) (to - from) 0 }
 {
-    if stops(sort) {
-        return to - from;
-    }
-    0
+    if stops(sort) { to - from } else { 0 }
 }
 
 // The place of an instruction with which a text may not end.
@@ -181,19 +157,16 @@ pub fn progress_after(
     requires { Advanceable p head names.now }
     ensures { Progresses p head section after names.now result }
 {
-    let op = head.op;
-    let closing = p.closing;
-    let ended = p.ended;
     let from = p.first_waiting();
     let to = head.names;
     let labels = lowest_mark(&names[from..to]);
     Progress {
-        section: section,
-        english: english_after(head, p.section, p.english),
+        section,
+        edition: edition_after(head, p.section, p.edition),
         names: to,
-        waiting: waiting_after(op.sort, from, to),
-        closing: closing_after(head, labels, after, closing),
-        ended: ended_after(head, ended),
+        waiting: waiting_after(head.op.sort, from, to),
+        closing: closing_after(head, labels, after, p.closing),
+        ended: ended_after(head, p.ended),
     }
 }
 
@@ -201,11 +174,7 @@ pub fn progress_after(
 fn order_fault(last: usize, c: Closing) -> Fault
     ensures { result ≡ cond c.kons c.early (fault_of (last ∷ [])) }
 {
-    if c.kons {
-        let early = c.early;
-        return early;
-    }
-    Some(last)
+    if c.kons { c.early } else { Some(last) }
 }
 
 // The lowest place at fault of a whole text with its last byte at `last` and so many instructions; `ended` is the place of a last
@@ -219,8 +188,7 @@ pub fn end_fault(
 ) -> Fault
     ensures { Ends last c instructions ended waiting result }
 {
-    let fault = c.fault;
-    let statements = lower(fault, order_fault(last, c));
+    let statements = lower(c.fault, order_fault(last, c));
     let section = lower(statements, (!c.konp).then_some(last));
     let code = lower(section, (instructions == 0).then_some(last));
     lower(lower(code, ended), waiting)

@@ -10,7 +10,7 @@ use Rattle.declaring_switches.specs.Below.Listed.{Listed}
 
 -- the switch with the operator o, the mark of its name and the list that was read
 abbrev pub declaration : Token → Bool → ℕ → Listed → Declaration
-declaration o named name l = record { at = o.at; list = o.next; named = named; name = name; words = l.words; over = l.over }
+declaration o named name l = record { at = o.at; begin = o.next; named = named; name = name; list = l }
 
 -- the verdict of the questions before 11, and that of all: where the first is yes, 11 has a fault of which F holds
 abbrev pub AskedLast : (Fault → Type 0) → Verdict → Verdict → Type 0

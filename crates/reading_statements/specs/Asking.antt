@@ -34,17 +34,17 @@ abbrev pub names_verdict : List ℕ → List ℕ → ℕ → ℕ → Verdict
 names_verdict s ms a b =
     then (decided 6 (fault_of (repeated_by s (names_of s (take a ms)) (marks_in ms a b)))) (decided 70 (fault_of (reserved_by s (marks_in ms a b))))
 
--- 14, 15 and 16, whose number is w, 00 or 10, 08, 06 and 70
+-- 14, 15 and 16, whose verdict is w, 00 or 10, 08, 06 and 70
 abbrev pub opening_questions : Draft → List Item → List Question
 opening_questions d x = item_questions x ++ (head_questions d x ++ name_questions d x)
 
-pub record HeadAskable (s : List ℕ) (w : ℕ) (g : Progress) (h : Head) (ms : List ℕ) : Type 0 where
+pub record HeadAskable (s : List ℕ) (w : told.Verdict) (g : Progress) (h : Head) (ms : List ℕ) : Type 0 where
   pub place : ℕ
   pub draft : Draft
   pub judging : Judging s place draft g h ms
   pub worst_is : w ≡ worst (statement_at s place)
 
-abbrev pub HeadAsked : List ℕ → ℕ → Progress → Head → List ℕ → Fault → told.Verdict → Type 0
+abbrev pub HeadAsked : List ℕ → told.Verdict → Progress → Head → List ℕ → Fault → told.Verdict → Type 0
 HeadAsked s w g h ms zero r =
     (n : ℕ) (d : Draft) → Judging s n d g h ms → w ≡ worst (statement_at s n) → ZeroTold (is_first d) (statement_at s n) zero
     → verdict_of r ≡ first_no (opening_questions d (statement_at s n))

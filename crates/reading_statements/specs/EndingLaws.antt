@@ -26,14 +26,14 @@ use Rattle.syntax.specs.Verdict.{first_no}
 use Rattle.reading_statements.specs.Admitting.{AskedLast}
 use Rattle.reading_statements.specs.Asking.{HeadAsked}
 use Rattle.reading_statements.specs.GatheringLaws.{all_short}
-use Rattle.reading_statements.specs.KindLaws.{worst-whole, neither-asked, known}
+use Rattle.reading_statements.specs.KindLaws.{worst-whole, neither-asked}
 use Rattle.reading_statements.specs.QuestionLaws.{early-told}
 use Rattle.reading_statements.specs.ReadLaws.{answers, plain, read_as}
 use Rattle.reading_statements.specs.ReadingStatements.{Read, Reading, Finishes, ReadsEnding, EndingTold}
 use Rattle.reading_statements.specs.declared.Ending.{Ending}
 
-pub restable : {s : List ℕ} {n : ℕ} {h : Head} → Headed s n h → length s ≤ limit.text → Restable s h.op h.worst
-restable k low = record { low = low; stands = k.stands; coded = known k }
+pub restable : {s : List ℕ} {n : ℕ} {h : Head} → Headed s n h → length s ≤ limit.text → Restable s h.op
+restable k low = record { low = low; stands = k.stands }
 
 -- 11 has no fault
 none_last : (u : told.Verdict) → AskedLast (λ f. f ≡ None) u u

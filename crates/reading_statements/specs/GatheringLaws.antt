@@ -19,7 +19,7 @@ use Rattle.statements.specs.Groups.{item_questions}
 use Rattle.heads.specs.declared.Head.{Head}
 use Rattle.language.specs.Limits as limit
 use Rattle.layout.specs.Bounds.{Each}
-use Rattle.judging.specs.Judging.{Labelled, LabelFault}
+use Rattle.judging.specs.Judging.{LabelFault}
 use Rattle.layout.proofs.CellLaws.{each_append, each_at}
 use Rattle.judging.specs.Below.Names.{names_of, Repeatable}
 use Rattle.judging.specs.Below.RepeatedLaws.{NamedLabel, repeated-marks, reserved-marks}
@@ -137,13 +137,13 @@ module _ {s : List ℕ} {n : ℕ} {d : Draft} {g : Progress} {h : Head} {ms : Li
         }
 
     -- 08, 06 and 70, as they are asked of the marks
-    pub labelled : Labelled h ms (from g)
-    labelled = record { order = omega (arith, j.count_is); most = all_most; low = omega (arith, few, j.inside, j.low) }
+    pub labels-inside : (from g ≤ h.names) × (h.names ≤ length ms)
+    labels-inside = (omega (arith, j.count_is), all_most)
 
     pub repeatable : Repeatable s ms h.names
     repeatable = record { most = all_most; marked = names-kept.marked }
 
-    pub labels-told : {f : Fault} → LabelFault h ms (from g) f → f ≡ fault_of (label_faults (all_labels d x) x)
+    pub labels-told : {f : Fault} → LabelFault h (marks_in ms (from g) h.names) f → f ≡ fault_of (label_faults (all_labels d x) x)
     labels-told e = e s n j.headed (all_labels d x) (sym marks-all) (each_append Short d.waiting ls j.short (labels-have Short x all_short))
 
     named : Each (NamedLabel s) ls

@@ -7,7 +7,7 @@ use Rattle.acceptance.proofs.DraftLaws.{arguments_sound}
 use Rattle.acceptance.proofs.RowLaws.{Answered, answered, each_map}
 use Rattle.declaring_switches.specs.Below.ArgumentCells.{RightArgument}
 use Rattle.declaring_switches.specs.Below.Arguments.{Operates, ReadsArguments}
-use Rattle.declaring_switches.specs.Below.CountLaws.{Instruction, this-instruction}
+use Rattle.declaring_switches.specs.Below.CountLaws.{Instruction, this-instruction, above}
 use Rattle.declaring_switches.specs.Below.ArgumentsTypeArguments.{Arguments}
 use Rattle.declaring_switches.specs.Below.Declaring.{Declarable, DeclaresValues, RightValues, Declares}
 use Rattle.declaring_switches.specs.Below.DeclaringTabledLaws.{Operated, operated, instr-told, instr-tabled}
@@ -20,7 +20,6 @@ use Rattle.heads.specs.Heads.{head_keyword, Headed, instr_of, instr_by}
 use Rattle.heads.specs.HeadLaws.{some-number}
 use Rattle.language.specs.Operators.{op_by}
 use Rattle.language.specs.declared.Operator.{Operator}
-use Rattle.words.specs.declared.Keyword.{Keyword}
 use Rattle.heads.specs.declared.Head.{Head}
 use Rattle.language.specs.Instructions.{operation, operator_of, number_of}
 use Rattle.language.specs.Limits as limit
@@ -33,7 +32,7 @@ use Rattle.statements.specs.Faults.{decided, then, verdict_of}
 use Rattle.statements.specs.Groups.{early_questions}
 use Rattle.statements.specs.StatementAt.{statement_at, fault_of}
 use Rattle.statements.specs.Faults.{Fault}
-use Rattle.std.specs.Prelude.{Option, Some, None}
+use Rattle.std.specs.Prelude.{Some, None}
 use Rattle.statements.specs.Faults as told
 use Rattle.declaring_switches.specs.Below.SwitchLaws.{of-instr}
 use Rattle.declaring_switches.specs.Below.SwitchListsSwitches.{argument_question}
@@ -47,7 +46,7 @@ use Rattle.reading_statements.specs.Admitting.{Admits}
 use Rattle.reading_statements.specs.Asking.{HeadAsked}
 use Rattle.reading_statements.specs.GatheringLaws.{names-kept}
 use Rattle.reading_statements.specs.Judging.{from}
-use Rattle.reading_statements.specs.KindLaws.{known, there, whole, zero-here, ends-behind, instr-acts, instr-asked}
+use Rattle.reading_statements.specs.KindLaws.{there, whole, zero-here, ends-behind, instr-acts, instr-asked}
 use Rattle.reading_statements.specs.QuestionLaws.{early-told, table_faults}
 use Rattle.reading_statements.specs.ReadLaws.{plain, acting, fine-here, labelled, spelt-rest, tables-here, rest-short, answers, read_as}
 use Rattle.reading_statements.specs.ReadingStatements.{Read, Reading, Finishes, ReadsInstr}
@@ -58,16 +57,25 @@ part_have P ms a b f k l =
     let i : k < b - a = omega (arith, l, length-take (b - a) (drop a ms)) in
     subst P (sym (get_or-take (b - a) (drop a ms) k 0 i ∙ get_or-drop a ms k 0)) (f (a + k) (omega (arith, i)))
 
+abbrev number_by : Operator → ℕ
+number_by o = number_of (op_by o)
+
 module _ {s lines : List ℕ} {n : ℕ} {d : Draft} {g : Progress} {h : Head} {ms c sw en : List ℕ} (r : Reading s lines n d g h ms c sw en)
-    (early : Answered (early_questions d (statement_at s n))) {number : ℕ} (number_is : number ≡ instr_of (head_keyword h)) (some : number ≡ 0 → ⊥)
-    {a : Arguments} (o : ReadsArguments s h.op number h.worst a) where
+    (early : Answered (early_questions d (statement_at s n))) {operator : Operator} (is : Some operator ≡ instr_by (head_keyword h))
+    {a : Arguments} (o : ReadsArguments s h.op (number_by operator) h.worst a) where
+  number_is : number_by operator ≡ instr_of (head_keyword h)
+  number_is = some-number (head_keyword h) is
+
+  some : number_by operator ≡ 0 → ⊥
+  some = above operator refl
+
   abbrev items : List Item
   items = statement_at s n
 
   k : Headed s n h
   k = r.judging.headed
 
-  own : Instruction (keyword_in items) number
+  own : Instruction (keyword_in items) (number_by operator)
   own = this-instruction k number_is some
 
   here : Operated s items h.op
@@ -87,16 +95,16 @@ module _ {s lines : List ℕ} {n : ℕ} {d : Draft} {g : Progress} {h : Head} {m
 
   -- its value
   abbrev valued : ℕ → value.Instruction
-  valued line = record { number = number; at = h.op.at; line = line; values = a.values }
+  valued line = record { operator = operator; at = h.op.at; line = line; values = a.values }
 
-  right-values : RightValues s h.op.next number a.values
+  right-values : RightValues s h.op.next (number_by operator) a.values
   unfolding argument_question
   right-values =
-      let operator_is : operator_of number ≡ own.op = ap operator_of (sym own.has) ∙ operator-back own.op in
+      let operator_is : operator_of (number_by operator) ≡ own.op = ap operator_of (sym own.has) ∙ operator-back own.op in
       record {
         numbered = ap (λ (o : Op). (operation o).number) operator_is ∙ own.has;
         read = o.values (of-instr k number_is some o.judged ∙ ap fault_of early.1.1.1.1.1.1.1.1.1.0);
-        right = subst (λ (js : List Item). Each RightArgument (arguments (operator_of number) js)) here.rest_is
+        right = subst (λ (js : List Item). Each RightArgument (arguments (operator_of (number_by operator)) js)) here.rest_is
             (subst (λ (o : Op). Each RightArgument (arguments o (rest items))) (sym operator_is) right-rest);
       }
 
@@ -138,40 +146,30 @@ module _ {s lines : List ℕ} {n : ℕ} {d : Draft} {g : Progress} {h : Head} {m
 
 -- ---- it is read
 
-pub number-is : (k : Option Keyword) {o : Operator} {m : ℕ} → m ≡ number_of (op_by o) → Some o ≡ instr_by k → m ≡ instr_of k
-number-is k e f = e ∙ some-number k f
-
-module _ {s : List ℕ} {h : Head} {number : ℕ} (number_is : number ≡ instr_of (head_keyword h)) (some : number ≡ 0 → ⊥) where
+module _ {s : List ℕ} {h : Head} {operator : Operator} (is : Some operator ≡ instr_by (head_keyword h)) where
   module _ {n : ℕ} (k : Headed s n h) where
-    pub operates : length s ≤ limit.text → Operates s h.op number h.worst
-    operates low =
-        let i = this-instruction k number_is some in
-        record {
-          stands = k.stands;
-          low = low;
-          numbered = ap (λ (o : Op). (operation o).number) (ap operator_of (sym i.has) ∙ operator-back i.op) ∙ i.has;
-          known = known k;
-        }
+    pub operates : length s ≤ limit.text → Operates s h.op
+    operates low = record { stands = k.stands; low = low }
 
-    pub whole-instr : {a : Arguments} → ReadsArguments s h.op number h.worst a → a.worst ≡ worst (statement_at s n)
-    whole-instr o = whole k (instr-acts k number_is some) o.worst_is
+    pub whole-instr : {a : Arguments} → ReadsArguments s h.op (number_by operator) h.worst a → a.worst ≡ worst (statement_at s n)
+    whole-instr o = whole k (instr-acts k (some-number (head_keyword h) is) (above operator refl)) o.worst_is
 
   -- v is the verdict of all questions before 11, where u is that of the questions of the head
-  module _ {a : Arguments} (o : ReadsArguments s h.op number h.worst a) {lines : List ℕ} {g : Progress} {ms c : List ℕ} (u v : told.Verdict)
+  module _ {a : Arguments} (o : ReadsArguments s h.op (number_by operator) h.worst a) {lines : List ℕ} {g : Progress} {ms c : List ℕ} (u v : told.Verdict)
       (asked : HeadAsked s a.worst g h ms (Some h.first) u) (all : verdict_of v ≡ then (verdict_of u) (then (decided 1 a.over) (decided 2 a.fault)))
       {line : ℕ} (l : line ≡ line_at lines h.op.at) where
     early-instr : {sw en : List ℕ} (n : ℕ) (d : Draft) → Reading s lines n d g h ms c sw en → first_no (early_questions d (statement_at s n)) ≡ verdict_of v
     early-instr n d r =
         let k = r.judging.headed in
-        early-told d (statement_at s n) (asked n d r.judging (whole-instr k o) (λ e. zero-here k (instr-acts k number_is some))) (instr-asked k number_is some o) all
+        early-told d (statement_at s n) (asked n d r.judging (whole-instr k o) (λ e. zero-here k (instr-acts k (some-number (head_keyword h) is) (above operator refl)))) (instr-asked k (some-number (head_keyword h) is) (above operator refl) o) all
 
     pub declarable : {sw en : List ℕ} {n : ℕ} {d : Draft} → Reading s lines n d g h ms c sw en → v ≡ Ok tt
-        → Declarable s (record { number = number; at = h.op.at; line = line; values = a.values }) (marks_in ms (from g) h.names) c
-    declarable {n = n} {d = d} r e = instr-declarable r (answered _ (early-instr n d r ∙ ap verdict_of e)) number_is some o l
+        → Declarable s (record { operator = operator; at = h.op.at; line = line; values = a.values }) (marks_in ms (from g) h.names) c
+    declarable {n = n} {d = d} r e = instr-declarable r (answered _ (early-instr n d r ∙ ap verdict_of e)) is o l
 
     pub read-instr : (w : told.Verdict) {c' : List ℕ}
-        → Admits (λ f. DeclaresValues s (record { number = number; at = h.op.at; line = line; values = a.values }) (marks_in ms (from g) h.names) c f c') v w c c'
+        → Admits (λ f. DeclaresValues s (record { operator = operator; at = h.op.at; line = line; values = a.values }) (marks_in ms (from g) h.names) c f c') v w c c'
         → {y : Read} → Finishes g h (record { section = g.section; after = None }) ms w y → ReadsInstr s lines g h ms c (answers y a.next) c'
     read-instr w t z sw en =
-        read_as early-instr (λ n d r b f. instr-last r b number_is some o l f) (λ n d r b. acting r b (instr-acts r.judging.headed number_is some))
-        (λ n k. ends-behind k (there k (instr-acts k number_is some)) o.ends) w t z
+        read_as early-instr (λ n d r b f. instr-last r b is o l f) (λ n d r b. acting r b (instr-acts r.judging.headed (some-number (head_keyword h) is) (above operator refl)))
+        (λ n k. ends-behind k (there k (instr-acts k (some-number (head_keyword h) is) (above operator refl))) o.ends) w t z

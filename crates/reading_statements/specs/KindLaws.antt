@@ -1,12 +1,12 @@
 -- A statement by its kind: an instruction, a switch, or neither. Its questions 01 and 02, and what its readers tell of all its items.
-use Rattle.std.specs.Prelude.{◌≡◌, refl, Bool, true, false, cond, List, [], ◌∷◌, ◌++◌, ℕ, ◌≤◌, ◌<◌, min, eqb, length, take, drop}
-use Rattle.std.proofs.Common.{sym, ap, ◌∙◌, subst, true≢false, arith, eqb-true, eq-eqb}
+use Rattle.std.specs.Prelude.{◌≡◌, refl, Bool, true, false, cond, List, [], ◌∷◌, ◌++◌, ℕ, ◌<◌, eqb, length, take, drop}
+use Rattle.std.proofs.Common.{sym, ap, ◌∙◌, true≢false, arith, eqb-true, eq-eqb}
 use Rattle.declaring_switches.specs.Below.Arguments.{ReadsArguments}
 use Rattle.declaring_switches.specs.Below.CountLaws.{this-instruction, not-counted, counted}
 use Rattle.declaring_switches.specs.Below.ArgumentsTypeArguments.{Arguments}
-use Rattle.statements.specs.CheckLaws.{worst-low, worst-append}
-use Rattle.statements.specs.Checks.{clean, worst}
-use Rattle.statements.specs.Faults.{decided, then}
+use Rattle.statements.specs.CheckLaws.{worse-clear, worse_assoc, worst-append}
+use Rattle.statements.specs.Checks.{item_verdict, worst}
+use Rattle.statements.specs.Faults.{Verdict, decided, then, worse}
 use Rattle.statements.specs.Groups.{argument_questions}
 use Rattle.progress.specs.Below.HeadingLaws.{rest-follows, first-in_front, first-wrong}
 use Rattle.progress.specs.Below.Headings.{is_kons, is_konp, follows}
@@ -42,23 +42,25 @@ front-behind (i ∷ js) = go (is_operator i) (front-behind js)
     go true e = refl
     go false e = ap (λ (ys : List Item). i ∷ ys) e
 
-first_rest : (ys : List Item) → worst ys ≡ min (worst (take 1 ys)) (worst (drop 1 ys))
+first_rest : (ys : List Item) → worst ys ≡ worse (worst (take 1 ys)) (worst (drop 1 ys))
 unfolding worst
 first_rest [] = refl
-first_rest (y ∷ ys) = omega (arith, worst-low ys)
+first_rest (y ∷ ys) = ap (λ v. worse v (worst ys)) (sym (worse-clear (item_verdict y)))
 
 module _ {s : List ℕ} {n : ℕ} {h : Head} (g : Headed s n h) where
   abbrev x : List Item
   x = statement_at s n
 
-  pub known : h.worst ≤ clean
-  known = subst (λ (w : ℕ). w ≤ clean) (sym g.worst_is) (worst-low _)
-
-  pub worst-whole : {w : ℕ} → w ≡ min h.worst (worst (follows s h.op)) → w ≡ worst x
+  pub worst-whole : {w : Verdict} → w ≡ worse h.worst (worst (follows s h.op)) → w ≡ worst x
   worst-whole {w} e =
-      let a : worst x ≡ min (worst (front x)) (worst (behind x)) = ap worst (front-behind x) ∙ worst-append (front x) (behind x) in
-      let c : h.worst ≡ min (worst (front x)) (worst (operator x)) = g.worst_is ∙ worst-append (front x) (operator x) in
-      omega (arith, first_rest (behind x), ap worst (rest-follows g))
+      let a : worst x ≡ worse (worst (front x)) (worst (behind x)) = ap worst (front-behind x) ∙ worst-append (front x) (behind x) in
+      let c : h.worst ≡ worse (worst (front x)) (worst (operator x)) = g.worst_is ∙ worst-append (front x) (operator x) in
+      e
+      ∙ ap (λ v. worse v (worst (follows s h.op))) c
+      ∙ worse_assoc (worst (front x)) (worst (operator x)) (worst (follows s h.op))
+      ∙ ap (λ js. worse (worst (front x)) (worse (worst (operator x)) (worst js))) (sym (rest-follows g))
+      ∙ ap (worse (worst (front x))) (sym (first_rest (behind x)))
+      ∙ sym a
 
   pub ends-behind : stops h.op.sort ≡ false → {r : Option ℕ} → EndedBy s h.op.next r → EndedBy s n r
   ends-behind z e = ended-on (λ k b. ends-then (still-within g.within g.token z)) e
@@ -87,8 +89,8 @@ module _ {s : List ℕ} {n : ℕ} {h : Head} (g : Headed s n h) (a : acts (head_
   pub inside : n < length s
   inside = omega (arith, g.from, g.stands.some (goes h.op.sort there).0, g.stands.behind, g.stands.most)
 
-  pub whole : {w : ℕ} → w ≡ min h.worst (worst (statement_at s h.op.next)) → w ≡ worst (statement_at s n)
-  whole e = worst-whole g (e ∙ ap (λ (b : Bool). min h.worst (worst (cond b [] (statement_at s h.op.next)))) (sym there))
+  pub whole : {w : Verdict} → w ≡ worse h.worst (worst (statement_at s h.op.next)) → w ≡ worst (statement_at s n)
+  whole e = worst-whole g (e ∙ ap (λ (b : Bool). worse h.worst (worst (cond b [] (statement_at s h.op.next)))) (sym there))
 
   -- 00: it is no SEKCJA
   pub zero-here : Some h.first ≡ fault_of (first_faults (statement_at s n))
@@ -112,7 +114,7 @@ module _ {s : List ℕ} {n : ℕ} {h : Head} (g : Headed s n h) where
     pub instr-acts : acts (head_keyword h) ≡ true
     instr-acts = ap acts (g.keyword ∙ ap told (this-instruction g e z).is)
 
-    pub instr-asked : {w : ℕ} {a : Arguments} → ReadsArguments s h.op m w a → first_no (argument_questions y) ≡ then (decided 1 a.over) (decided 2 a.fault)
+    pub instr-asked : {w : Verdict} {a : Arguments} → ReadsArguments s h.op m w a → first_no (argument_questions y) ≡ then (decided 1 a.over) (decided 2 a.fault)
     instr-asked r =
         let i = this-instruction g e z in
         two-asked y (r.counted i.op i.has ∙ sym (ap fault_of (counted g e z))) (of-instr g e z r.judged)

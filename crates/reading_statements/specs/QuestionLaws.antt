@@ -1,16 +1,13 @@
 -- The questions of a statement, one after the other.
-use Rattle.std.specs.Prelude.{◌≡◌, Bool, true, false, cond, List, [], ◌∷◌, ◌++◌, ℕ, ◌<◌, length}
+use Rattle.std.specs.Prelude.{◌≡◌, Bool, true, false, cond, List, [], ◌∷◌, ◌++◌, ℕ}
 use Rattle.std.proofs.Math.Path.{refl}
-use Rattle.std.proofs.Common.{sym, ap, ◌∙◌, arith}
-use Rattle.acceptance.specs.Drafts.{SoundItem}
-use Rattle.acceptance.proofs.RowLaws.{each_map}
+use Rattle.std.proofs.Common.{sym, ap, ◌∙◌}
 use Rattle.statements.specs.CheckLaws.{worst-decides}
-use Rattle.statements.specs.Checks.{worst, code_verdict}
+use Rattle.statements.specs.Checks.{worst}
+use Rattle.statements.specs.Faults as told
 use Rattle.statements.specs.FaultLaws.{question-decides, then-yes, first_no-both}
-use Rattle.statements.specs.Faults.{decided, then}
+use Rattle.statements.specs.Faults.{verdict_of, decided, then}
 use Rattle.statements.specs.Groups.{item_questions, head_questions, name_questions, argument_questions, early_questions, table_questions}
-use Rattle.heads.specs.declared.Head.{Head}
-use Rattle.progress.specs.declared.Progress.{Progress}
 use Rattle.statements.specs.StatementAt.{statement_at, fault_of}
 use Rattle.lists.specs.Lists.{keep}
 use Rattle.syntax.specs.Items.{Item, places}
@@ -20,8 +17,6 @@ use Rattle.syntax.specs.Tables.{Draft, is_first, all_labels}
 use Rattle.syntax.specs.Verdict.{Question, Verdict, ask, first_no}
 use Rattle.syntax.specs.Verdict.Verdict.{yes}
 use Rattle.reading_statements.specs.Asking.{operator_verdict, opening_questions}
-use Rattle.reading_statements.specs.GatheringLaws.{statement-sound}
-use Rattle.reading_statements.specs.Judging.{Judging}
 
 none-asked : first_no [] ≡ yes
 unfolding first_no
@@ -68,10 +63,6 @@ module _ (d : Draft) (x : List Item) where
   unfolding questions
   all_told e = first_no-both (early_questions d x) (table_questions d x) ∙ rw (e, question-decides, none-asked, then-yes) refl
 
--- 14, 15 and 16 by their number
-pub items-told : {s : List ℕ} {n : ℕ} {d : Draft} {g : Progress} {h : Head} {ms : List ℕ} (j : Judging s n d g h ms) {w : ℕ} → w ≡ worst (statement_at s n)
-    → first_no (item_questions (statement_at s n)) ≡ code_verdict w
-items-told {s} {n} j e =
-    worst-decides (statement_at s n)
-    (each_map (SoundItem (length s)) (λ i. i.at < 65536) (λ i k. omega (arith, k.place, j.low)) (statement_at s n) (statement-sound s n j.inside))
-    ∙ ap code_verdict (sym e)
+-- 14, 15 and 16
+pub items-told : (s : List ℕ) (n : ℕ) {w : told.Verdict} → w ≡ worst (statement_at s n) → first_no (item_questions (statement_at s n)) ≡ verdict_of w
+items-told s n e = worst-decides (statement_at s n) ∙ ap verdict_of (sym e)

@@ -14,6 +14,7 @@ use Rattle.progress.specs.Progress.{Drafted, Before}
 use Rattle.progress.specs.declared.Progress.{Progress}
 use Rattle.statements.specs.StatementAt.{statement_at}
 use Rattle.statements.specs.Faults as told
+use Rattle.statements.specs.Questions.{question_number}
 use Rattle.syntax.specs.Load.{Lined}
 use Rattle.syntax.specs.Questions.{questions}
 use Rattle.syntax.specs.Tables.{Draft, draft_after}
@@ -44,7 +45,7 @@ Read = Result Progress Refusal
 
 abbrev pub read_verdict : Read → Verdict
 read_verdict (Ok g) = yes
-read_verdict (Err r) = refuse r.number r.at
+read_verdict (Err r) = refuse (question_number r.question) r.at
 
 -- For whatever draft before it, the verdict of all questions of the statement of the head h is told; where it is yes, g' and the cells after are those of
 -- the draft after the statement. And where it ends
@@ -117,5 +118,5 @@ pub record Endable (s : List ℕ) (r : Rest) (section : Option ℕ) : Type 0 whe
 
 abbrev pub EndingTold : List ℕ → Head → Rest → Option ℕ → Ending → Type 0
 EndingTold s h r section e =
-    (n w : ℕ) → Headed s n h → Rests s h.op w r → n ≤ length s → Each (λ i. length i.chars ≤ limit.item) (statement_at s n)
+    (n : ℕ) (w : told.Verdict) → Headed s n h → Rests s h.op w r → n ≤ length s → Each (λ i. length i.chars ≤ limit.item) (statement_at s n)
     → SectionTold s n section e.section × AfterTold s n section e.after

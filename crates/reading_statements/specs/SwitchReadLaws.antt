@@ -56,7 +56,7 @@ use Rattle.reading_statements.specs.Admitting.{Admits, declaration}
 use Rattle.reading_statements.specs.Asking.{HeadAsked}
 use Rattle.reading_statements.specs.GatheringLaws.{marks-all, names-kept}
 use Rattle.reading_statements.specs.Judging.{Judging, from}
-use Rattle.reading_statements.specs.KindLaws.{zero-here, ends-behind, switch-asked, known, there, inside, whole, chooses, switch-acts}
+use Rattle.reading_statements.specs.KindLaws.{zero-here, ends-behind, switch-asked, there, inside, whole, chooses, switch-acts}
 use Rattle.reading_statements.specs.QuestionLaws.{early-told, table_faults}
 use Rattle.reading_statements.specs.ReadLaws.{answers, plain, acting, labelled, spelt-rest, tables-here, rest-fine, rest-short, read_as}
 use Rattle.reading_statements.specs.ReadingStatements.{Read, Reading, Reads, Finishes}
@@ -90,7 +90,7 @@ held_most {lines = lines} {t = t} {c = c} v =
 
 module _ {s lines : List ℕ} {n : ℕ} {d : Draft} {g : Progress} {h : Head} {ms c sw en : List ℕ} (r : Reading s lines n d g h ms c sw en)
     (early : Answered (early_questions d (statement_at s n))) (some : is_switch (head_keyword h) ≡ true) {named : Bool} (named-is : named ≡ is_by_name (head_keyword h))
-    {w : ℕ} {tx : List (Option Quoted)} {l : Listed} {en' : List ℕ} {tx' : List (Option Quoted)} (list : ReadsList s h.op named w (cell (table_of c) 3) en tx l en' tx') where
+    {w : told.Verdict} {tx : List (Option Quoted)} {l : Listed} {en' : List ℕ} {tx' : List (Option Quoted)} (list : ReadsList s h.op named w (cell (table_of c) 3) en tx l en' tx') where
   abbrev x : List Item
   x = statement_at s n
 
@@ -190,9 +190,9 @@ module _ {s lines : List ℕ} {n : ℕ} {d : Draft} {g : Progress} {h : Head} {m
 -- ---- it is read
 
 pub listable : {s : List ℕ} {n : ℕ} {h : Head} → Headed s n h → {held : ℕ} {en : List ℕ} {tx : List (Option Quoted)} → length s ≤ limit.text → held ≤ limit.entries → length en ≡ limit.entries → length tx ≡ limit.entries
-    → Listable s h.op h.worst held en tx
+    → Listable s h.op held en tx
 listable k low most entries texts =
-    record { stands = k.stands; checked = known k; low = low; held_most = most; entry_room = entries; text_room = texts }
+    record { stands = k.stands; low = low; held_most = most; entry_room = entries; text_room = texts }
 
 module _ {s : List ℕ} {h : Head} (some : is_switch (head_keyword h) ≡ true) {named : Bool} (named-is : named ≡ is_by_name (head_keyword h)) where
   -- there is room for the mark of its name

@@ -9,6 +9,7 @@ ghost use Rattle.declaring_switches.specs.Below.Declaring.{Declarable, DeclaresV
 ghost use Rattle.declaring_switches.specs.Switches.{DeclarableSwitch, DeclaresSwitch};
 ghost use Rattle.judging.specs.Below.Names.{Repeatable};
 ghost use Rattle.progress.specs.Advancing.{Advanceable};
+ghost use Rattle.words.specs.Keywords.{is_english};
 ghost use Rattle.reading_statements.specs.Admitting.{declaration, Admits};
 ghost use Rattle.reading_statements.specs.Asking.{OperatorAsked, names_verdict, HeadAskable, HeadAsked};
 ghost use Rattle.reading_statements.specs.ReadingStatements.{Finishes, InstrReadable, ReadsInstr, SwitchReadable, ReadsSwitch, Endable, EndingTold, EndingReadable, ReadsEnding, Readable, ReadsStatement};
@@ -24,8 +25,9 @@ use language::{Machine, Operator};
 use lexer::{Token, line_at};
 use progress::from_headings::{Rest, after_fault, read_rest, section_fault, section_mark};
 use progress::{Progress, progress_after};
-use statements::{Fault, Refusal, Verdict, checked, decide, first_of, stops};
+use statements::{Fault, Question, Refusal, Verdict, decide, first_of, stops};
 use table::Table;
+use words::Edition;
 
 // What is known after a statement, or its refusal; and where the next statement begins, unless it is the last.
 #[derive(Clone, Copy)]
@@ -42,13 +44,13 @@ pub struct Ending {
 }
 
 // Question 00 of the first statement, whose fault is `zero`, 10 of a later one in a section of an edition.
-fn ask_operator(head: Head, first: bool, english: bool, zero: Fault) -> Verdict
-    ensures { OperatorAsked head first english zero result }
+fn ask_operator(head: Head, first: bool, edition: Edition, zero: Fault) -> Verdict
+    ensures { OperatorAsked head first (is_english edition) zero result }
 {
     if first {
-        return decide(0, zero);
+        return decide(Question::Heading, zero);
     }
-    decide(10, operator_fault(head, english))
+    decide(Question::Operator, operator_fault(head, edition))
 }
 
 // Questions 06 and 70 of the labels whose marks stand from index `from` to index `to`. What is at fault in 70 is found first, which
@@ -58,17 +60,20 @@ fn ask_names(text: &[u8], names: &[u32], from: usize, to: usize) -> Verdict
     ensures { verdict_of result ≡ names_verdict text.now names.now from to }
 {
     let own = &names[from..to];
-    let reserved = decide(70, first_reserved(text, own));
+    let reserved = decide(Question::LabelName, first_reserved(text, own));
     first_of(
-        decide(6, first_repeated(text, &names[..from], own)),
+        decide(
+            Question::RepeatedLabel,
+            first_repeated(text, &names[..from], own),
+        ),
         reserved,
     )
 }
 
-// Questions 14, 15 and 16, whose number is `worst`, 00 or 10, 08, 06 and 70.
+// Questions 14, 15 and 16, whose verdict is `worst`, 00 or 10, 08, 06 and 70.
 fn ask_head(
     text: &[u8],
-    worst: usize,
+    worst: Verdict,
     head: Head,
     zero: Fault,
     p: Progress,
@@ -77,9 +82,12 @@ fn ask_head(
     requires { HeadAskable text.now worst p head names.now }
     ensures { HeadAsked text.now worst p head names.now zero result }
 {
-    checked(worst)?;
-    let operator = ask_operator(head, p.section.is_none(), p.english, zero);
-    let labels = decide(8, label_fault(head, names, p.first_waiting()));
+    worst?;
+    let operator = ask_operator(head, p.section.is_none(), p.edition, zero);
+    let labels = decide(
+        Question::SwitchLabels,
+        label_fault(head, &names[p.first_waiting()..head.names]),
+    );
     let named = ask_names(text, names, p.names, head.names);
     first_of(operator, first_of(labels, named))
 }
@@ -98,7 +106,7 @@ fn admit_instruction(
     let Ok(()) = asked else {
         return asked;
     };
-    decide(11, declare_instruction(text, i, labels, table))
+    decide(Question::Room, declare_instruction(text, i, labels, table))
 }
 
 // The same of a switch. One function for both would take question 11 as a closure on the lent tables, and be longer.
@@ -116,7 +124,10 @@ fn admit_switch(
     let Ok(()) = asked else {
         return asked;
     };
-    decide(11, declare_switch(text, d, table, switches, texts))
+    decide(
+        Question::Room,
+        declare_switch(text, d, table, switches, texts),
+    )
 }
 
 // After all questions: what is known then, or the refusal.
@@ -148,17 +159,22 @@ fn read_instruction(
     ensures { ReadsInstr text.now lines.now p head names.now table.old result table.new }
 {
     let op = head.op;
-    let number = u8::from(operator);
-    let a = read_arguments(text, op, number, head.worst);
+    let a = read_arguments(text, op, operator, head.worst);
     let asked = ask_head(text, a.worst, head, Some(head.first), p, names);
     let values = a.values;
     let i = Instruction {
-        number,
+        operator,
         at: op.at,
         line: usize::from(line_at(lines, op.at)),
         values,
     };
-    let early = first_of(asked, first_of(decide(1, a.over), decide(2, a.fault)));
+    let early = first_of(
+        asked,
+        first_of(
+            decide(Question::Count, a.over),
+            decide(Question::Argument, a.fault),
+        ),
+    );
     let labels = &names[p.first_waiting()..head.names];
     let verdict = admit_instruction(text, early, i, labels, table);
     let e = Ending {
@@ -177,11 +193,10 @@ fn switch_of(op: Token, named: bool, name: u32, l: Listed) -> Declaration
 {
     Declaration {
         at: op.at,
-        list: op.next,
+        begin: op.next,
         named,
         name,
-        words: l.words,
-        over: l.over,
+        list: l,
     }
 }
 
@@ -205,7 +220,7 @@ fn read_switch(
     let l = read_list(text, op, named, head.worst, held, entries, &mut texts);
     let asked = ask_head(text, l.worst, head, Some(head.first), p, names);
     let d = switch_of(op, named, names[p.first_waiting()], l);
-    let early = first_of(asked, decide(2, l.fault));
+    let early = first_of(asked, decide(Question::Argument, l.fault));
     let verdict = admit_switch(text, early, d, table, switches, &texts);
     let e = Ending {
         section: p.section,
@@ -257,6 +272,7 @@ fn is_empty(head: Head) -> bool
 }
 
 // The statement at `n` of a text whose bytes have the lines `lines`: "Load hands the unread rest of the text to the next statement."
+// The four rows are no struct: of one that holds `&mut` each contract would also have to say that each field still lends the same row.
 pub fn read_statement(
     text: &[u8],
     lines: &[u16],

@@ -2,13 +2,11 @@
 #![tactic(auto)]
 
 ghost use Rattle.std.specs.Prelude.{◌≡◌, not, ◌+◌, ◌≤◌, ◌<◌, length, position};
-ghost use Rattle.syntax.specs.Below.Characters.{known_marks};
 ghost use Rattle.syntax.specs.Items.{sort_of, same_sort, pair_of, ends_text, takes_next, allows};
 ghost use Rattle.syntax.specs.Items.Sort.{word};
 ghost use Rattle.scanner.specs.Sorts.{sort_in};
 ghost use Rattle.scanner.specs.Scans.{if_pair, Closing, Passed, Skipped, WordEnd, Scanned};
 
-use syntax::from_characters;
 use syntax::from_characters::{is_capital, is_digit, is_known};
 
 // The sorts of items. A separator is no item.
@@ -83,16 +81,14 @@ pub fn pair_of(b: u8) -> Option<u8>
     })
 }
 
-// A byte of a text. `star`: the byte before is a star that takes this one. Whether the byte may stand there, by the
-// table of characters lent:
-fn allows(star: bool, b: u8, marks: &[u8]) -> bool
-    requires { marks.now ≡ known_marks }
+// A byte of a text. `star`: the byte before is a star that takes this one. Whether the byte may stand there,
+fn allows(star: bool, b: u8) -> bool
     ensures { result ≡ allows star b }
 {
     if star {
         return pair_of(b).is_some();
     }
-    (b == b'*') | (is_known(b, marks) & (b != b'\n') & (b != b'\''))
+    (b == b'*') | (is_known(b) & (b != b'\n') & (b != b'\''))
 }
 
 // whether it ends the text,
@@ -176,8 +172,10 @@ pub fn word_end(text: &[u8], n: usize) -> usize
     }
 }
 
-fn scan_by(text: &[u8], n: usize, marks: &[u8]) -> Scan
-    requires { (n ≤ length text.now) × (marks.now ≡ known_marks) }
+// The bytes of a text from `n`, the place after its apostrophe, on. Inlined, as the functions of `lexer` that call it.
+#[inline(always)]
+pub fn scan_text(text: &[u8], n: usize) -> Scan
+    requires { n ≤ length text.now }
     ensures { Scanned text.now n result }
 {
     let mut star = false;
@@ -193,7 +191,7 @@ fn scan_by(text: &[u8], n: usize, marks: &[u8]) -> Scan
                 behind: (b == b'\'').then_some(i + 1),
             };
         }
-        good &= allows(star, b, marks);
+        good &= allows(star, b);
         star = takes_next(star, b);
         count += usize::from(!star);
     }
@@ -203,13 +201,4 @@ fn scan_by(text: &[u8], n: usize, marks: &[u8]) -> Scan
         good,
         behind: None,
     }
-}
-
-// The bytes of a text from `n`, the place after its apostrophe, on. Inlined, as the functions of `lexer` that call it.
-#[inline(always)]
-pub fn scan_text(text: &[u8], n: usize) -> Scan
-    requires { n ≤ length text.now }
-    ensures { Scanned text.now n result }
-{
-    scan_by(text, n, &from_characters::MARKS)
 }

@@ -1,5 +1,5 @@
 -- One turn of the loops over a text's bytes, as laws over lists; and what two rows of bytes being the same comes to.
-use mathlib.Core.Path.{◌≡◌, refl, ap, sym, ◌∙◌}
+use mathlib.Core.Path.{◌≡◌, refl, ap, sym, subst, ◌∙◌}
 use mathlib.Core.Bool.{Bool, true, false, cond}
 use mathlib.Core.List.{List, [], ◌∷◌, ◌++◌, append_assoc, append-nil}
 use Prim.Native.Nat.{ℕ, suc, ◌+◌, ◌-◌, ◌≤◌, ◌<◌}
@@ -8,7 +8,7 @@ use native.Mathlib.Numerals.{add-one}
 use native.Mathlib.Omega.{arith}
 use lib.Dec.{eqb}
 use lib.ListN.{length, get_or, set, length-append}
-use lib.Seq.{set_split}
+use lib.Seq.{set_split, take-length}
 use Rattle.words.specs.Below.Cells.{pasted}
 use Rattle.words.proofs.Below.CellsLaws.{pasted-none, pasted-pasted}
 use Rattle.scanner.specs.Below.Items.{pair_of, takes_next, char_of}
@@ -107,3 +107,17 @@ pub put-done : {s : List ℕ} {a e : ℕ} {d : List ℕ} {i j : ℕ} {star : Boo
 put-done {s} {a} {e} {d} {i} {j} {star} c h =
     let q : c.done ≡ text_in s a e = sym (append-nil c.done) ∙ ap (λ l. c.done ++ l) (sym (left-none s i e star h)) ∙ c.rest in
     record { is = c.is ∙ ap (pasted d 0) q; next = c.place ∙ ap length q ∙ omega arith }
+
+-- a part as a text of its own
+own-part : (bs : List ℕ) → part bs 0 (length bs) ≡ bs
+own-part bs = let e : length bs - 0 ≡ length bs = omega arith in rw e (take-length bs)
+
+own-text : (bs : List ℕ) → text_in bs 0 (length bs) ≡ text_chars false bs
+own-text bs = ap (text_chars false) (own-part bs)
+
+pub fits-own : {s : List ℕ} {a e : ℕ} {d : List ℕ} → FitsText s a e d → FitsText (part s a e) 0 (length (part s a e)) d
+fits-own {s} {a} {e} f = record { between = record { order = omega arith; most = omega arith }; room = rw (own-text (part s a e)) f.room }
+
+pub own-done : (s : List ℕ) (a e : ℕ) {d : List ℕ} {i j : ℕ} {star : Bool} {o : List ℕ} → Putting (part s a e) 0 (length (part s a e)) d i j star o → length (part s a e) ≤ i
+    → Put d 0 (text_in s a e) j o
+own-done s a e {d} {j = j} {o = o} c h = subst (λ (cs : List ℕ). Put d 0 cs j o) (own-text (part s a e)) (put-done c h)

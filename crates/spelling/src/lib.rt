@@ -39,10 +39,9 @@ pub fn put_text(text: &[u8], at: usize, end: usize, out: &mut [u8]) -> usize
 {
     let mut star = false;
     let mut j: usize = 0;
-    for i in at..end {
-        let b = text[i];
-        j = put_char(out, j, star, b);
-        star = takes_next(star, b);
+    for b in &text[at..end] {
+        j = put_char(out, j, star, *b);
+        star = takes_next(star, *b);
     }
     j
 }

@@ -1,22 +1,31 @@
--- The lowest of the items' numbers, from token to token, and that it says the verdict of questions 14, 15 and 16.
-use Rattle.std.specs.Prelude.{◌≡◌, Bool, true, false, cond, List, [], ◌∷◌, ◌++◌, ltb, length}
+-- The verdict of questions 14, 15 and 16 from token to token, and that it is that of the specification.
+use Rattle.std.specs.Prelude.{◌≡◌, Bool, true, false, cond, List, [], ◌∷◌, ◌++◌, ℕ, min, ltb, eqb, length, Ok, Err}
 use Rattle.std.proofs.Math.Path.{refl, ap}
-use Rattle.std.proofs.Common.{sym, ◌∙◌, zero-add, arith, lt-ltb, le-ltb}
-use Prim.Native.Nat.{ℕ, ◌+◌, ◌-◌, ◌≤◌, ◌<◌, min}
-use Rattle.layout.specs.Bounds.{Each}
+use Rattle.std.proofs.Common.{sym, ◌∙◌, arith, lt-ltb, ltb-true, ltb-false}
+use Rattle.std.proofs.lemmas.Bool.{true≢false, false≢true}
+use Rattle.std.proofs.lemmas.Cmp.{nat_cmp_total, on_total, then_total}
+use Rattle.std.specs.Cmp.{IsTotalOrder}
+use Rattle.std.specs.Ordering.{nat_cmp, is_lt, ord_min}
+use Rattle.std.specs.declared.cmp.Ordering.{Ordering}
+use Rattle.std.specs.declared.cmp.Ordering.TheVariants.{Less, Equal, Greater}
 use Rattle.lexer.specs.declared.Token.{Token}
 use Rattle.lexer.specs.Tokens.{item_of, chars_of, Stands, NextToken}
 use Rattle.layout.specs.Below.Lists.{filled, keep}
+use Rattle.statements.specs.declared.Refusal.{Refusal}
+use Rattle.statements.specs.declared.Question.{Question}
+use Rattle.statements.specs.declared.Question.TheVariants.{Byte, Text, Length}
+use Rattle.statements.specs.Questions.{question_number}
 use Rattle.statements.specs.StatementAt.{statement_at, stops}
 use Rattle.statements.specs.StatementLaws.{at-stop, at_item}
 use Rattle.lexer.specs.Below.Items.{Item, is, places}
 use Rattle.lexer.specs.Below.Items.Sort.{wrong}
 use Rattle.lexer.specs.Below.SyntaxVerdict.{ask, lowest, decide, first_no}
-use Rattle.statements.specs.Checks.{bad_token, clean, item_code, worst, code_verdict, token_code}
+use Rattle.statements.specs.Checks.{bad_token, item_verdict, worst, token_verdict}
 use Rattle.statements.specs.FaultLaws.{lowest-min}
+use Rattle.statements.specs.Faults.{Verdict, verdict_of, no, refusal_cmp, worse}
 use Rattle.statements.specs.Groups.{bad_text, too_long, item_questions}
 
--- ---- a token's number
+-- ---- a token's verdict
 
 filled-length : (w : List ℕ) → filled w ≡ ltb 0 (length w)
 filled-length [] = refl
@@ -29,158 +38,132 @@ module _ {s : List ℕ} {t : Token} (h : Stands s t) where
   too-long_is : too_long (item_of s t) ≡ ltb 60 t.len
   too-long_is = rw h.count refl
 
-  pub token-coded : token_code t ≡ item_code (item_of s t)
-  token-coded = sym (rw (bad_text-is, too-long_is) refl)
+  pub token-told : token_verdict t ≡ item_verdict (item_of s t)
+  token-told = sym (rw (bad_text-is, too-long_is) refl)
 
 -- from token to token
 module _ {s : List ℕ} {n : ℕ} {t : Token} (k : NextToken s n t) where
-  pub worst-stop : stops t.sort ≡ true → worst (statement_at s n) ≡ clean
+  pub worst-stop : stops t.sort ≡ true → worst (statement_at s n) ≡ Ok tt
   unfolding worst
   worst-stop z = rw (at-stop k z) refl
 
-  pub worst-item : stops t.sort ≡ false → worst (statement_at s n) ≡ min (token_code t) (worst (statement_at s t.next))
+  pub worst-item : stops t.sort ≡ false → worst (statement_at s n) ≡ worse (token_verdict t) (worst (statement_at s t.next))
   unfolding worst
-  worst-item z = ap worst (at_item k z) ∙ ap (λ (m : ℕ). min m (worst (statement_at s t.next))) (sym (token-coded k.stands))
+  worst-item z = ap worst (at_item k z) ∙ ap (λ (v : Verdict). worse v (worst (statement_at s t.next))) (sym (token-told k.stands))
 
 -- ---- two rows
 
-item-low : (i : Item) → i.at < 65536 → item_code i ≤ clean
-item-low i h = go (is wrong i) (bad_text i) (too_long i)
-  where
-    go : (a b c : Bool) → cond a i.at (cond b (65536 + i.at) (cond c (131072 + i.at) clean)) ≤ clean
-    go true b c = omega arith
-    go false true c = omega arith
-    go false false true = omega arith
-    go false false false = omega arith
+-- the first of three in a total order
+module _ {X : Type 0} (R : X → X → Ordering) (total : IsTotalOrder R) where
+  is-less : (o : Ordering) → is_lt o ≡ true → o ≡ Less
+  is-less Less e = refl
+  is-less Equal e = absurd (false≢true e)
+  is-less Greater e = absurd (false≢true e)
 
-pub worst-low : (js : List Item) → worst js ≤ clean
-unfolding worst
-worst-low [] = omega arith
-worst-low (j ∷ js) = let h = worst-low js in omega arith
+  less-on : (a b c : X) → is_lt (R c b) ≡ true → is_lt (R b a) ≡ true → is_lt (R c a) ≡ true
+  less-on a b c e f = ap is_lt (total.trans c b a (is-less (R c b) e) (is-less (R b a) f))
 
-pub worst-append : (xs ys : List Item) → worst (xs ++ ys) ≡ min (worst xs) (worst ys)
+  not-less : (a b c : X) → is_lt (R c b) ≡ false → is_lt (R b a) ≡ false → is_lt (R c a) ≡ false
+  not-less a b c e f = go (R c b) refl (is_lt (R c a)) refl
+    where
+      go : (o : Ordering) → R c b ≡ o → (t : Bool) → is_lt (R c a) ≡ t → t ≡ false
+      go o q false z = refl
+      go Less q true z = absurd (true≢false (sym (ap is_lt q) ∙ e))
+      go Equal q true z = absurd (true≢false (sym z ∙ ap is_lt (total.congr c b a q) ∙ f))
+      go Greater q true z =
+          let back : R b c ≡ Less = total.antisymm b c ∙ rw q refl in
+          absurd (true≢false (sym (less-on a c b (ap is_lt back) z) ∙ f))
+
+  pub first_assoc : (a b c : X) → ord_min R (ord_min R a b) c ≡ ord_min R a (ord_min R b c)
+  first_assoc a b c = go (is_lt (R b a)) refl (is_lt (R c b)) refl
+    where
+      go : (s : Bool) → is_lt (R b a) ≡ s → (t : Bool) → is_lt (R c b) ≡ t → ord_min R (ord_min R a b) c ≡ ord_min R a (ord_min R b c)
+      go true e true f = rw (e, f, less-on a b c f e) refl
+      go true e false f = rw (e, f) (rw e refl)
+      go false e true f = rw (e, f) refl
+      go false e false f = rw (e, f) (rw (e, not-less a b c f e) refl)
+
+refusals-total : IsTotalOrder refusal_cmp
+refusals-total = then_total (on_total (λ (r : Refusal). question_number r.question) nat_cmp_total) (on_total (λ (r : Refusal). r.at) nat_cmp_total)
+
+pub worse-clear : (v : Verdict) → worse v (Ok tt) ≡ v
+worse-clear (Ok u) = refl
+worse-clear (Err r) = refl
+
+pub worse_assoc : (u v w : Verdict) → worse (worse u v) w ≡ worse u (worse v w)
+worse_assoc (Ok a) v w = refl
+worse_assoc (Err r) (Ok b) w = refl
+worse_assoc (Err r) (Err q) (Ok c) = refl
+worse_assoc (Err r) (Err q) (Err p) = ap Err (first_assoc refusal_cmp refusals-total r q p)
+
+pub worst-append : (xs ys : List Item) → worst (xs ++ ys) ≡ worse (worst xs) (worst ys)
 unfolding worst
-worst-append [] ys = let h = worst-low ys in omega arith
-worst-append (x ∷ xs) ys = ap (min (item_code x)) (worst-append xs ys) ∙ (omega arith)
+worst-append [] ys = refl
+worst-append (x ∷ xs) ys = ap (worse (item_verdict x)) (worst-append xs ys) ∙ sym (worse_assoc (item_verdict x) (worst xs) (worst ys))
 
 -- ---- the verdict
 
--- the lowest of some places, moved by so much; `clean` where there is none
-abbrev coded : ℕ → List ℕ → ℕ
-coded off [] = clean
-coded off (p ∷ ps) = off + lowest p ps
-
-coded-more : (off p : ℕ) (ps : List ℕ) → off + p ≤ clean → coded off (p ∷ ps) ≡ min (off + p) (coded off ps)
-unfolding lowest
-coded-more off p [] h = omega arith
-coded-more off p (q ∷ ps) h = ap (λ (m : ℕ). off + m) (lowest-min p q ps) ∙ (omega arith)
-
-unfoldable kept : ℕ → (Item → Bool) → List Item → ℕ
-kept off q x = coded off (places (keep q x))
-
-kept_more : (off : ℕ) (q : Item → Bool) (i : Item) (js : List Item) → off + i.at ≤ clean → (b : Bool) → q i ≡ b
-    → kept off q (i ∷ js) ≡ cond b (min (off + i.at) (kept off q js)) (kept off q js)
-unfolding kept
-kept_more off q i js h true e = rw e (coded-more off i.at (places (keep q js)) h)
-kept_more off q i js h false e = rw e refl
-
-past : (x a r : ℕ) → min x (min a r) ≡ min a (min x r)
-past x a r = omega arith
-
-over : (x y b c : ℕ) → x ≤ y → min x (min b c) ≡ min (min x b) (min y c)
-over x y b c h = omega arith
-
-over-one : (x b r : ℕ) → min x (min b r) ≡ min (min x b) r
-over-one x b r = omega arith
-
-absorbs : (x y a r : ℕ) → x ≤ y → min (min x a) r ≡ min (min x a) (min y r)
-absorbs x y a r h = omega arith
-
-joins : (at a b c : ℕ) (x y z : Bool) → a ≤ clean → min (cond x at (cond y (65536 + at) (cond z (131072 + at) clean))) (min a (min b c))
-    ≡ min (cond x (min at a) a) (min (cond y (min (65536 + at) b) b) (cond z (min (131072 + at) c) c))
-joins at a b c true true true h =
-    over-one at a (min b c) ∙ absorbs at (65536 + at) a (min b c) (omega arith) ∙ ap (min (min at a)) (over (65536 + at) (131072 + at) b c (omega arith))
-joins at a b c true true false h =
-    over-one at a (min b c) ∙ absorbs at (65536 + at) a (min b c) (omega arith) ∙ ap (min (min at a)) (over-one (65536 + at) b c)
-joins at a b c true false true h =
-    over-one at a (min b c) ∙ absorbs at (131072 + at) a (min b c) (omega arith) ∙ ap (min (min at a)) (past (131072 + at) b c)
-joins at a b c true false false h = over-one at a (min b c)
-joins at a b c false true true h = past (65536 + at) a (min b c) ∙ ap (min a) (over (65536 + at) (131072 + at) b c (omega arith))
-joins at a b c false true false h = past (65536 + at) a (min b c) ∙ ap (min a) (over-one (65536 + at) b c)
-joins at a b c false false true h = past (131072 + at) a (min b c) ∙ ap (min a) (past (131072 + at) b c)
-joins at a b c false false false h = omega arith
-
-kept_low : (off : ℕ) (q : Item → Bool) (x : List Item) → off ≤ 131072 → Each (λ i. i.at < 65536) x → kept off q x ≤ clean
-unfolding kept
-kept_low off q [] l h = omega arith
-kept_low off q (i ∷ js) l (h, hs) = let k = kept_low off q js l hs in rw (kept_more off q i js (omega arith) _ refl) (go (q i) k)
+-- of two places at fault in one question the lower
+first-place : (n : Question) (p q : ℕ) → nat_cmp (question_number n) (question_number n) ≡ Equal → worse (no n p) (no n q) ≡ no n (min p q)
+first-place n p q e = rw e (go (ltb q p) refl (eqb q p))
   where
-    go : (b : Bool) → kept off q js ≤ clean → cond b (min (off + i.at) (kept off q js)) (kept off q js) ≤ clean
-    go true k = omega arith
-    go false k = k
+    at : ℕ → Refusal
+    at k = record { question = n; at = k }
 
-none_left : clean ≡ min (kept 0 (is wrong) []) (min (kept 65536 bad_text []) (kept 131072 too_long []))
-unfolding kept
-none_left = refl
+    go : (t : Bool) → ltb q p ≡ t → (b : Bool) → ◌≡◌ {A = Verdict} (Err (cond (is_lt (cond t Less (cond b Equal Greater))) (at q) (at p))) (no n (min p q))
+    go true z b = let l = ltb-true q p z in let m : q ≡ min p q = omega arith in ap (no n) m
+    go false z true = let l = ltb-false q p z in let m : p ≡ min p q = omega arith in ap (no n) m
+    go false z false = let l = ltb-false q p z in let m : p ≡ min p q = omega arith in ap (no n) m
 
--- the numbers of the three questions, of which the lowest is that of all
-worst-three : (x : List Item) → Each (λ i. i.at < 65536) x → worst x ≡ min (kept 0 (is wrong) x) (min (kept 65536 bad_text x) (kept 131072 too_long x))
-unfolding worst
-worst-three [] h = none_left
-worst-three (i ∷ js) (h, hs) =
-    ap (min (item_code i)) (worst-three js hs)
-    ∙ joins i.at (kept 0 (is wrong) js) (kept 65536 bad_text js) (kept 131072 too_long js) (is wrong i) (bad_text i) (too_long i) (kept_low 0 (is wrong) js (omega arith) hs)
-    ∙ sym
-    (rw (kept_more 0 (is wrong) i js (omega arith) _ refl, kept_more 65536 bad_text i js (omega arith) _ refl, kept_more 131072 too_long i js (omega arith) _ refl, zero-add i.at)
-    refl)
+-- the first of three questions that has a place at fault, and the lowest of its places
+told : List ℕ → List ℕ → List ℕ → Verdict
+told (p ∷ ps) qs rs = no Byte (lowest p ps)
+told [] (q ∷ qs) rs = no Text (lowest q qs)
+told [] [] (r ∷ rs) = no Length (lowest r rs)
+told [] [] [] = Ok tt
 
-lowest-le : (p : ℕ) (ps : List ℕ) → lowest p ps ≤ p
-unfolding lowest
-lowest-le p [] = omega arith
-lowest-le p (q ∷ ps) = let h = lowest-le (min p q) ps in omega arith
+with : Bool → ℕ → List ℕ → List ℕ
+with b p ps = cond b (p ∷ ps) ps
 
-coded-from : (off : ℕ) (ps : List ℕ) → off ≤ clean → off ≤ coded off ps
-coded-from off [] h = h
-coded-from off (p ∷ ps) h = omega arith
+one_more : (p : ℕ) (a b c : Bool) (ps qs rs : List ℕ)
+    → told (with a p ps) (with b p qs) (with c p rs) ≡ worse (cond a (no Byte p) (cond b (no Text p) (cond c (no Length p) (Ok tt)))) (told ps qs rs)
+unfolding told with lowest
+one_more p true b c (x ∷ ps) qs rs = ap (no Byte) (lowest-min p x ps) ∙ sym (first-place Byte p (lowest x ps) refl)
+one_more p true b c [] (x ∷ qs) rs = refl
+one_more p true b c [] [] (x ∷ rs) = refl
+one_more p true b c [] [] [] = refl
+one_more p false true c (x ∷ ps) qs rs = refl
+one_more p false true c [] (x ∷ qs) rs = ap (no Text) (lowest-min p x qs) ∙ sym (first-place Text p (lowest x qs) refl)
+one_more p false true c [] [] (x ∷ rs) = refl
+one_more p false true c [] [] [] = refl
+one_more p false false true (x ∷ ps) qs rs = refl
+one_more p false false true [] (x ∷ qs) rs = refl
+one_more p false false true [] [] (x ∷ rs) = ap (no Length) (lowest-min p x rs) ∙ sym (first-place Length p (lowest x rs) refl)
+one_more p false false true [] [] [] = refl
+one_more p false false false ps qs rs = refl
 
-unfoldable first-low : List ℕ → Type 0
-first-low [] = Unit {0}
-first-low (p ∷ ps) = p < 65536
-
-places-low : (q : Item → Bool) (x : List Item) → Each (λ i. i.at < 65536) x → first-low (places (keep q x))
-unfolding first-low
-places-low q [] h = tt
-places-low q (i ∷ js) (h, hs) = go (q i) (places-low q js hs)
+kept-more : (q : Item → Bool) (i : Item) (js : List Item) → places (keep q (i ∷ js)) ≡ with (q i) i.at (places (keep q js))
+unfolding with
+kept-more q i js = go (q i)
   where
-    go : (b : Bool) → first-low (places (keep q js)) → first-low (places (cond b (i ∷ keep q js) (keep q js)))
-    go true k = h
-    go false k = k
+    go : (b : Bool) → places (cond b (i ∷ keep q js) (keep q js)) ≡ cond b (i.at ∷ places (keep q js)) (places (keep q js))
+    go true = refl
+    go false = refl
 
-decides : (ps qs rs : List ℕ) → first-low ps → first-low qs → first-low rs
-    → first_no (ask 14 ps ∷ ask 15 qs ∷ ask 16 rs ∷ []) ≡ code_verdict (min (coded 0 ps) (min (coded 65536 qs) (coded 131072 rs)))
-unfolding first_no decide first-low
-decides (p ∷ ps) qs rs h k l =
-    let w : min (0 + lowest p ps) (min (coded 65536 qs) (coded 131072 rs)) ≡ lowest p ps =
-    omega (arith, lowest-le p ps, coded-from 65536 qs (omega arith), coded-from 131072 rs (omega arith)) in
-    let m : lowest p ps < 65536 = omega (arith, lowest-le p ps) in
-    sym (ap code_verdict w ∙ rw (lt-ltb (lowest p ps) 65536 m) refl)
-decides [] (q ∷ qs) rs h k l =
-    let w : min clean (min (65536 + lowest q qs) (coded 131072 rs)) ≡ 65536 + lowest q qs =
-    omega (arith, lowest-le q qs, coded-from 131072 rs (omega arith)) in
-    let m : 65536 + lowest q qs < 131072 = omega (arith, lowest-le q qs) in
-    let d : 65536 + lowest q qs - 65536 ≡ lowest q qs = omega arith in
-    sym (ap code_verdict w ∙ rw (le-ltb (65536 + lowest q qs) 65536 (omega arith), lt-ltb (65536 + lowest q qs) 131072 m, d) refl)
-decides [] [] (r ∷ rs) h k l =
-    let w : min clean (min clean (131072 + lowest r rs)) ≡ 131072 + lowest r rs = omega (arith, lowest-le r rs) in
-    let m : 131072 + lowest r rs < clean = omega (arith, lowest-le r rs) in
-    let d : 131072 + lowest r rs - 131072 ≡ lowest r rs = omega arith in
-    sym
-    (ap code_verdict w
-    ∙ rw (le-ltb (131072 + lowest r rs) 65536 (omega arith), le-ltb (131072 + lowest r rs) 131072 (omega arith), lt-ltb (131072 + lowest r rs) clean m, d) refl)
-decides [] [] [] h k l = refl
+told-worst : (x : List Item) → told (places (keep (is wrong) x)) (places (keep bad_text x)) (places (keep too_long x)) ≡ worst x
+unfolding told worst
+told-worst [] = refl
+told-worst (i ∷ js) =
+    rw (kept-more (is wrong) i js, kept-more bad_text i js, kept-more too_long i js)
+    (one_more i.at (is wrong i) (bad_text i) (too_long i) (places (keep (is wrong) js)) (places (keep bad_text js)) (places (keep too_long js))
+    ∙ ap (worse (item_verdict i)) (told-worst js))
 
-pub worst-decides : (x : List Item) → Each (λ i. i.at < 65536) x → first_no (item_questions x) ≡ code_verdict (worst x)
-unfolding kept
-worst-decides x h =
-    decides (places (keep (is wrong) x)) (places (keep bad_text x)) (places (keep too_long x)) (places-low (is wrong) x h) (places-low bad_text x h) (places-low too_long x h)
-    ∙ ap code_verdict (sym (worst-three x h))
+told-decides : (ps qs rs : List ℕ) → first_no (ask 14 ps ∷ ask 15 qs ∷ ask 16 rs ∷ []) ≡ verdict_of (told ps qs rs)
+unfolding told first_no decide
+told-decides (p ∷ ps) qs rs = refl
+told-decides [] (q ∷ qs) rs = refl
+told-decides [] [] (r ∷ rs) = refl
+told-decides [] [] [] = refl
+
+pub worst-decides : (x : List Item) → first_no (item_questions x) ≡ verdict_of (worst x)
+worst-decides x = told-decides (places (keep (is wrong) x)) (places (keep bad_text x)) (places (keep too_long x)) ∙ ap verdict_of (told-worst x)

@@ -2,6 +2,8 @@ pub mod StatementAt
 pub mod StatementLaws
 pub mod LowestLaws
 pub mod PlaceLaws
+pub mod Questions
+pub mod QuestionLaws
 pub mod Faults
 pub mod FaultLaws
 pub mod Groups

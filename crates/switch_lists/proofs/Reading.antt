@@ -2,7 +2,7 @@
 use mathlib.Core.Path.{◌≡◌, refl, sym, ap, ◌∙◌}
 use mathlib.Core.Bool.{Bool, true, false, cond, not, ◌&&◌, ◌||◌}
 use mathlib.Core.List.{List, [], ◌∷◌, ◌++◌, map, map-append, append_assoc, append-nil}
-use Prim.Native.Nat.{ℕ, suc, ◌+◌, ◌-◌, ◌≤◌, ◌<◌, min}
+use Prim.Native.Nat.{ℕ, suc, ◌+◌, ◌-◌, ◌≤◌, ◌<◌}
 use native.Mathlib.Decide.{dec_lt}
 use native.Mathlib.Omega.{arith}
 use lib.Dec.{eqb, leb, ltb}
@@ -15,7 +15,7 @@ use Rattle.arguments.specs.Valued.{Ordered, quoted_of}
 use Rattle.arguments.specs.ValueLaws.{names-text}
 use Rattle.arguments.specs.declared.Quoted.{Quoted}
 use Rattle.drafts.specs.Marks.{mark}
-use Rattle.statements.specs.Checks.{token_code}
+use Rattle.statements.specs.Checks.{token_verdict}
 use Rattle.statements.specs.FaultLaws.{fault-both, no-fault}
 use Rattle.statements.specs.Faults.{lower}
 use Rattle.heads.specs.HeadLaws.{filled-option}
@@ -27,7 +27,7 @@ use Rattle.scanner.specs.Sorts.{sort_in}
 use Rattle.std.specs.Option.{is_some, option_to_list}
 use Rattle.std.proofs.Common.{inl, inr}
 use Rattle.lists.specs.Lists.{filled, if_any, keep}
-use Rattle.statements.specs.Faults.{Fault}
+use Rattle.statements.specs.Faults.{Fault, Verdict, worse}
 use Rattle.std.specs.Prelude.{Option, None, Some}
 use Rattle.heads.specs.Heads.{following}
 use Rattle.statements.specs.PlaceLaws.{statement-from}
@@ -293,7 +293,7 @@ module _ {s : List ℕ} {n held words : ℕ} {after : Bool} {i : ℕ} {tx : List
 
 -- ---- all of it
 
-pub record Reading (s : List ℕ) (n : ℕ) (goes_by_name : Bool) (w₀ held : ℕ) (en₀ : List ℕ) (tx₀ : List (Option Quoted)) (fault over : Fault) (words w : ℕ) (b : Before) (i : ℕ) (en : List ℕ) (tx : List (Option Quoted)) : Type 0 where
+pub record Reading (s : List ℕ) (n : ℕ) (goes_by_name : Bool) (w₀ : Verdict) (held : ℕ) (en₀ : List ℕ) (tx₀ : List (Option Quoted)) (fault over : Fault) (words : ℕ) (w : Verdict) (b : Before) (i : ℕ) (en : List ℕ) (tx : List (Option Quoted)) : Type 0 where
   pub low : length s ≤ 32768
   pub held_most : held ≤ 128
   pub passing : Passing s n w₀ i w
@@ -304,8 +304,8 @@ pub record Reading (s : List ℕ) (n : ℕ) (goes_by_name : Bool) (w₀ held : �
   pub texted : Texted s n held words b.word i tx
   pub orders : Ordered (statement_at s i) → Ordered (statement_at s n)
 
-module _ {s : List ℕ} {t : Token} {w₀ held : ℕ} {en₀ : List ℕ} {tx₀ : List (Option Quoted)} (pre : Listable s t w₀ held en₀ tx₀) {goes_by_name : Bool} where
-  module _ {fault over : Fault} {words w : ℕ} {b : Before} {i : ℕ} {en : List ℕ} {tx : List (Option Quoted)} (u : Reading s t.next goes_by_name w₀ held en₀ tx₀ fault over words w b i en tx)
+module _ {s : List ℕ} {t : Token} {w₀ : Verdict} {held : ℕ} {en₀ : List ℕ} {tx₀ : List (Option Quoted)} (pre : Listable s t held en₀ tx₀) {goes_by_name : Bool} where
+  module _ {fault over : Fault} {words : ℕ} {w : Verdict} {b : Before} {i : ℕ} {en : List ℕ} {tx : List (Option Quoted)} (u : Reading s t.next goes_by_name w₀ held en₀ tx₀ fault over words w b i en tx)
       {x : Token} (k : NextToken s i x) where
     abbrev n : ℕ
     n = t.next
@@ -351,14 +351,14 @@ module _ {s : List ℕ} {t : Token} {w₀ held : ℕ} {en₀ : List ℕ} {tx₀ 
             texts = rw rows-now (rows_named s held tx u.texted.rows [] b.word u.texted.named u.texted.none_yet);
           }
 
-module _ {s : List ℕ} {n : ℕ} {goes_by_name : Bool} {w₀ held : ℕ} {en₀ : List ℕ} {tx₀ : List (Option Quoted)} {fault over : Fault} {words w : ℕ} {b : Before} {i : ℕ} {en : List ℕ} {tx : List (Option Quoted)}
+module _ {s : List ℕ} {n : ℕ} {goes_by_name : Bool} {w₀ : Verdict} {held : ℕ} {en₀ : List ℕ} {tx₀ : List (Option Quoted)} {fault over : Fault} {words : ℕ} {w : Verdict} {b : Before} {i : ℕ} {en : List ℕ} {tx : List (Option Quoted)}
     (u : Reading s n goes_by_name w₀ held en₀ tx₀ fault over words w b i en tx) where
   -- one more item
   module _ {x : Token} (k : NextToken s i x) (z : stops x.sort ≡ false) where
-    module _ {a r o : Fault} {name : Bool} {m v : ℕ} {em : List ℕ} {ty : List (Option Quoted)} (e : a ≡ lower fault (fault_of (colon_left b (goes_by_name && is_text x))))
+    module _ {a r o : Fault} {name : Bool} {m : ℕ} {v : Verdict} {em : List ℕ} {ty : List (Option Quoted)} (e : a ≡ lower fault (fault_of (colon_left b (goes_by_name && is_text x))))
         (g : name ≡ is_name (item_of s x)) (p : PutsItem x b.word (held + words) en tx em ty) (l : length em ≡ length en) (l' : length ty ≡ length tx)
         (f : r ≡ lower a (fault_of (one_if (not (name || (goes_by_name && is_text x && has_colon b))) x.at)))
-        (q : o ≡ lower over (fault_of (one_if (is_word x && leb 128 (held + words)) x.at))) (c : v ≡ min w (token_code x)) (d : m ≡ words + cond (is_word x) 1 0) where
+        (q : o ≡ lower over (fault_of (one_if (is_word x && leb 128 (held + words)) x.at))) (c : v ≡ worse w (token_verdict x)) (d : m ≡ words + cond (is_word x) 1 0) where
       pub reading-more : Reading s n goes_by_name w₀ held en₀ tx₀ r o m v (record { word = is_word x; name = name; colon = x.colon }) x.next em ty
       reading-more =
           record {

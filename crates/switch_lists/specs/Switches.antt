@@ -1,8 +1,9 @@
 -- The list of a switch: what its reader promises.
-use Rattle.std.specs.Prelude.{◌≡◌, Bool, true, false, cond, not, ◌&&◌, List, [], ◌∷◌, ◌++◌, map, ℕ, ◌+◌, ◌-◌, ◌≤◌, ◌<◌, min, ltb, length, get_or, take, set}
+use Rattle.std.specs.Prelude.{◌≡◌, Bool, true, false, cond, not, ◌&&◌, List, [], ◌∷◌, ◌++◌, map, ℕ, ◌+◌, ◌-◌, ◌≤◌, ◌<◌, ltb, length, get_or, take, set}
 use Rattle.arguments.specs.Valued.{NamesText, Ordered, quoted_of}
 use Rattle.drafts.specs.Marks.{mark_of, mark}
-use Rattle.statements.specs.Checks.{clean, worst}
+use Rattle.statements.specs.Checks.{worst}
+use Rattle.statements.specs.Faults.{Verdict, worse}
 use Rattle.language.specs.Limits as limit
 use Rattle.lexer.specs.declared.Token.{Token}
 use Rattle.lexer.specs.Tokens.{Stands}
@@ -84,21 +85,20 @@ pub record PutsItem (t : Token) (after : Bool) (k : ℕ) (en : List ℕ) (tx : L
   pub same_texts : is_word t ≡ false → (is_text t && after) ≡ false → ty ≡ tx
 
 -- the operator is the token t, and held entries stand before those of its list
-pub record Listable (s : List ℕ) (t : Token) (w held : ℕ) (en : List ℕ) (tx : List (Option Quoted)) : Type 0 where
+pub record Listable (s : List ℕ) (t : Token) (held : ℕ) (en : List ℕ) (tx : List (Option Quoted)) : Type 0 where
   pub stands : Stands s t
-  pub checked : w ≤ clean
   pub low : length s ≤ limit.text
   pub held_most : held ≤ limit.entries
   pub entry_room : length en ≡ limit.entries
   pub text_room : length tx ≡ limit.entries
 
 -- 02, 11 for the entries, 14 to 16 with those of w, and the end of the statement; the labels' marks, where none is in excess, and the texts
-pub record ReadsList (s : List ℕ) (t : Token) (goes_by_name : Bool) (w held : ℕ) (en : List ℕ) (tx : List (Option Quoted)) (r : Listed) (em : List ℕ) (ty : List (Option Quoted)) : Type 0 where
+pub record ReadsList (s : List ℕ) (t : Token) (goes_by_name : Bool) (w : Verdict) (held : ℕ) (en : List ℕ) (tx : List (Option Quoted)) (r : Listed) (em : List ℕ) (ty : List (Option Quoted)) : Type 0 where
   pub fault_is : r.fault ≡ fault_of (switch_after s t goes_by_name)
   pub words_is : r.words ≡ length (keep (is word) (statement_at s t.next))
   pub few : r.words ≤ limit.text
   pub over_is : r.over ≡ fault_of (beyond limit.entries held (places (keep (is word) (statement_at s t.next))))
-  pub worst_is : r.worst ≡ min w (worst (statement_at s t.next))
+  pub worst_is : r.worst ≡ worse w (worst (statement_at s t.next))
   pub ends : EndedBy s t.next r.next
   pub marks : r.over ≡ None → MarksAdded s t.next held en em
   pub texts : TextsNamed s t.next held ty

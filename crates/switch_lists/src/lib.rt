@@ -11,7 +11,7 @@ use heads::{following, is_name, mark};
 use language::Machine;
 use lexer::{Token, next_item};
 use scanner::Sort;
-use statements::{Fault, lower, stops, worse};
+use statements::{Fault, Verdict, lower, stops, worse};
 
 // A list: the lowest place at fault of question 02, how many words it has, the first of them that is an entry in excess, the questions 14 to 16 with its
 // items, and where the next statement begins, unless this is the last.
@@ -20,7 +20,7 @@ pub struct Listed {
     pub fault: Fault,
     pub words: usize,
     pub over: Fault,
-    pub worst: usize,
+    pub worst: Verdict,
     pub next: Option<usize>,
 }
 
@@ -80,18 +80,19 @@ fn put_item(t: Token, after: bool, k: usize, entries: &mut [u32], texts: &mut [O
 }
 
 // The list of a switch with the operator `t`, where `held` entries stand before its own.
+// `named` is a flag, as `goes_by_name : Bool` is in the specification of a switch, which has two types of them.
 // `entries` and `texts` are no row of pairs: the marks of all lists stay till the second pass, the texts are of this list alone.
 // Each turn goes on behind the item that it read, so there is no range to run over.
 pub fn read_list(
     text: &[u8],
     t: Token,
     named: bool,
-    worst: usize,
+    worst: Verdict,
     held: usize,
     entries: &mut [u32],
     texts: &mut [Option<Quoted>],
 ) -> Listed
-    requires { Listable text.now t worst held entries.old texts.old }
+    requires { Listable text.now t held entries.old texts.old }
     ensures { ReadsList text.now t named worst held entries.old texts.old result entries.new texts.new }
 {
     let first = t.next;

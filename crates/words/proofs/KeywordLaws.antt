@@ -327,11 +327,11 @@ shared-words j h = beq-eq (any (bytes_equal (word_at false j)) (words_of true)) 
 
 -- what is known of a word
 module _ (w : List ℕ) (j : ℕ) (p : j ≡ place_in false w) where
-  pub known-polish : j < 46 → {k : Keyword} → Some k ≡ keyword_at j → {e : Edition} → e ≡ edition_at j → Some (record { keyword = k; edition = e }) ≡ known w
+  pub known-polish : j < 46 → {k : Keyword} → Some k ≡ keyword_at j → {e : Option Edition} → e ≡ edition_at j → Some (record { keyword = k; edition = e }) ≡ known w
   unfolding own keyword_at
   known-polish h {k} k-is {e} e-is = go (case false w)
     where
-      here : (b : Bool) → Some (record { keyword = k; edition = cond b Edition.Both Edition.Polish }) ≡ known_by (Some k) (edition_of (not b) (b && false))
+      here : (b : Bool) → Some (record { keyword = k; edition = cond b None (Some Edition.Polish) }) ≡ known_by (Some k) (edition_of (not b) (b && false))
       here true = refl
       here false = refl
 
@@ -352,7 +352,7 @@ module _ (w : List ℕ) (j : ℕ) (p : j ≡ place_in false w) where
     unfolding keyword_at
     there = ap keyword_at i-is ∙ sym (ap told (keyword-later w none_first))
 
-    pub known-english : i < 46 → {k : Keyword} → Some k ≡ keyword_at i → Some (record { keyword = k; edition = Edition.English }) ≡ known w
+    pub known-english : i < 46 → {k : Keyword} → Some k ≡ keyword_at i → Some (record { keyword = k; edition = Some Edition.English }) ≡ known w
     unfolding own
     known-english l {k} k-is =
         let u : any (bytes_equal w) (words_of true) ≡ true = has-place true w ∙ ap (λ (n : ℕ). ltb n 46) (sym i-is) ∙ lt-ltb i 46 l in

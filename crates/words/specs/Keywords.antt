@@ -34,17 +34,21 @@ meant (Some Keyword.Konp) = Spec.Keyword.KONP
 meant (Some (Keyword.Switch goes_by_name)) = Spec.Keyword.switch goes_by_name
 meant (Some (Keyword.Instr o)) = Spec.Keyword.instr (op_by o)
 
--- the editions that have a word, by whether it is the Polish one's own, and the English one's
-abbrev pub edition_of : Bool → Bool → Edition
-edition_of true e = Edition.Polish
-edition_of false true = Edition.English
-edition_of false false = Edition.Both
+abbrev pub is_english : Edition → Bool
+is_english Edition.Polish = false
+is_english Edition.English = true
 
-abbrev pub known_by : Option Keyword → Edition → Option Known
+-- the edition whose own a word is, by whether it is the Polish one's own, and the English one's
+abbrev pub edition_of : Bool → Bool → Option Edition
+edition_of true e = Some Edition.Polish
+edition_of false true = Some Edition.English
+edition_of false false = None
+
+abbrev pub known_by : Option Keyword → Option Edition → Option Known
 known_by None e = None
 known_by (Some k) e = Some (record { keyword = k; edition = e })
 
--- the keyword of a word, and the editions that have it
+-- the keyword of a word, and the edition whose own it is
 abbrev pub known : List ℕ → Option Known
 known w = known_by (told (keyword_by w)) (edition_of (own false w) (own true w))
 
@@ -53,10 +57,10 @@ keyword_known None = None
 keyword_known (Some k) = Some k.keyword
 
 -- whether the word is the English edition's own, or the Polish one's
-abbrev pub own_by : Bool → Edition → Bool
-own_by english Edition.Polish = not english
-own_by english Edition.English = english
-own_by english Edition.Both = false
+abbrev pub own_by : Bool → Option Edition → Bool
+own_by english (Some Edition.Polish) = not english
+own_by english (Some Edition.English) = english
+own_by english None = false
 
 abbrev pub is_own : Bool → Option Known → Bool
 is_own english None = false
@@ -85,9 +89,9 @@ keyword_at j = told (get_or meanings j Spec.Keyword.unknown)
 abbrev pub shared : ℕ → Bool
 shared j = eqb j 2 || eqb j 45
 
--- the editions that have the Polish word of a place
-abbrev pub edition_at : ℕ → Edition
-edition_at j = cond (shared j) Edition.Both Edition.Polish
+-- the edition whose own the Polish word of a place is
+abbrev pub edition_at : ℕ → Option Edition
+edition_at j = cond (shared j) None (Some Edition.Polish)
 
 -- a word in the other edition: that of its place there; a word of no edition is itself
 unfoldable pub other_word : List ℕ → List ℕ

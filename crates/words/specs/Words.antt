@@ -1,10 +1,10 @@
 -- What the functions on words answer: classes, numbers and indexed letters.
-use Rattle.std.specs.Prelude.{Bool, Option, Some, None, cond, ◌&&◌, List, ℕ, ◌+◌, ◌-◌, min, leb, eqb, get_or, drop}
+use Rattle.std.specs.Option.{MatchOption}
+use Rattle.std.specs.Prelude.{◌≡◌, ◌<◌, Bool, Option, Some, None, cond, ◌&&◌, List, ℕ, eqb, get_or, drop}
 use Rattle.syntax.specs.Below.Letters.{letters, letter_code, indices, use_of}
 use Rattle.syntax.specs.Below.Letters.Letter.{A}
-use Rattle.syntax.specs.Below.Limits as limit
 use Rattle.syntax.specs.Below.Program.{classes}
-use Rattle.syntax.specs.Below.LanguageValues.{amount, unsigned, numeral, value_of, in_range}
+use Rattle.syntax.specs.Below.LanguageValues.{amount, numeral, value_of, in_range}
 use Rattle.appending.specs.Below.LayoutCells.{code}
 use Rattle.appending.specs.Below.Table.{letter_place, class_mask}
 use Rattle.syntax.specs.Below.Lists.{all, ahead, filled, head_or, among}
@@ -23,22 +23,6 @@ is_class w = filled w && all class_letter w
 unfoldable pub class_of : List ℕ → ℕ
 class_of w = cond (is_class w) (class_mask (classes w)) 0
 
--- the size of a number out of range
-abbrev pub beyond : ℕ
-beyond = limit.size + 1
-
--- the size of a number, up to that
-abbrev pub capped : ℕ → ℕ
-capped n = min n beyond
-
--- the size that digits give; what is no row of digits is out of range
-unfoldable pub size_of : List ℕ → ℕ
-size_of w = cond (unsigned w) (capped (amount 0 w)) beyond
-
--- a number's code by its size and sign
-unfoldable pub coded : ℕ → Bool → Option ℕ
-coded n negative = cond (leb n limit.size) (Some (cond negative (limit.size - n) (limit.size + n))) None
-
 -- the code of the number that a word is
 unfoldable pub numeral_of : List ℕ → Option ℕ
 numeral_of w = cond (numeral w && in_range (value_of w)) (Some (code (value_of w))) None
@@ -46,6 +30,10 @@ numeral_of w = cond (numeral w && in_range (value_of w)) (Some (code (value_of w
 -- the place of the letter of a byte among the letters; 12 for a byte of none
 abbrev pub letter_at : ℕ → ℕ
 letter_at b = ahead (λ l. eqb b (letter_code l)) letters
+
+-- r is the place of the letter of b, and nothing where b is no letter's
+abbrev pub Lettering : ℕ → Option ℕ → Type 0
+Lettering b r = MatchOption r (letter_at b ≡ 12) (λ k. (k ≡ letter_at b) × (k < 12))
 
 -- how far the indices of the letter at a place go
 abbrev pub reach : ℕ → ℕ

@@ -1,22 +1,18 @@
 // Words of a text: identifiers, classes, numbers, indexed letters and keywords, by their bytes.
 #![tactic(auto)]
 
-ghost use Rattle.std.specs.Prelude.{◌≡◌, Some, true, false, cond, ◌||◌, ◌+◌, ◌-◌, ◌*◌, ◌≤◌, ◌<◌};
+ghost use Rattle.std.specs.Prelude.{◌≡◌, Some, true, false, cond, not, ◌||◌, ◌+◌, ◌-◌, ◌*◌, ◌≤◌, ◌<◌};
 ghost use Rattle.appending.specs.Appending.{Appends};
 ghost use Rattle.syntax.specs.Below.Characters.{is_capital, is_digit};
 ghost use Rattle.syntax.specs.Below.Program.{identifier};
 ghost use Rattle.syntax.specs.Below.Lists.{all, among};
 ghost use Rattle.syntax.specs.Statements.{reserved};
-ghost use Rattle.words.specs.Words.{class_letter, is_class, class_of, capped, beyond, size_of, coded, numeral_of, letter_at, reach, indexed_of};
-ghost use Rattle.words.specs.Keywords.{is_own, known, keyword_at, edition_at, word_at, Placed, other_word, slot, guess, Lent};
+ghost use Rattle.words.specs.Words.{class_letter, is_class, class_of, numeral_of, Lettering, indexed_of};
+ghost use Rattle.words.specs.Keywords.{is_english, is_own, known, keyword_at, edition_at, word_at, Placed, other_word, slot, guess, Lent};
 
 use appending::append;
-use language::{Machine, Operator};
+use language::Operator;
 use syntax::from_characters;
-
-// The size of what is no number in range.
-// Sizes stop growing there, so that no Option is plainer; and decimals::measure, which is alike, stands on the machine's components, of which words need nothing.
-const BEYOND: usize = Machine::SIZE + 1;
 
 // The words of each edition, one after the other by their pairs; that at place j goes from start j to the next. By slot, `(` plus the place of the word
 // that has it; where none has it, any.
@@ -45,7 +41,7 @@ const ENGLISH_SLOTS: [u8; 128] =
     *b"(+((((1(((?(((.()*=(I(((((5(((((O((((@(((((20U(((:(((D(((K(((((H(B(((,(8((<F((P6T(((;((SM((LG((((N(Q(J-(ER94(7((C(((((((3(((A>/(";
 
 // An indexed letter: the letter's place among the twelve, and the index.
-#[derive(Clone, Copy, PartialEq, Eq)]
+#[derive(Clone, Copy, Debug, PartialEq, Eq)]
 pub struct Lettered {
     pub place: u8,
     pub index: u8,
@@ -61,31 +57,35 @@ pub enum Keyword {
     Instr(Operator),
 }
 
-// The editions that have a word.
 #[derive(Clone, Copy, Debug, PartialEq, Eq)]
 pub enum Edition {
     Polish,
     English,
-    Both,
 }
 
-// The keyword that a word is, and the editions that have the word.
+impl Edition {
+    pub fn other(self) -> Self
+        ensures { is_english result ≡ not (is_english self) }
+    {
+        match self {
+            Edition::Polish => Edition::English,
+            Edition::English => Edition::Polish,
+        }
+    }
+}
+
+// The keyword that a word is, and the edition whose own the word is; none, where both have it.
 #[derive(Clone, Copy, Debug, PartialEq, Eq)]
 pub struct Known {
     pub keyword: Keyword,
-    pub edition: Edition,
+    pub edition: Option<Edition>,
 }
 
 impl Known {
-    // Whether the word is the English edition's own, or the Polish one's.
-    pub fn is_own(self, english: bool) -> bool
-        ensures { result ≡ is_own english (Some self) }
+    pub fn is_own(self, edition: Edition) -> bool
+        ensures { result ≡ is_own (is_english edition) (Some self) }
     {
-        match self.edition {
-            Edition::Polish => !english,
-            Edition::English => english,
-            Edition::Both => false,
-        }
+        self.edition == Some(edition)
     }
 }
 
@@ -145,63 +145,18 @@ pub fn class_mask(w: &[u8]) -> u8
     0
 }
 
-fn grown(n: usize, b: u8) -> usize
-    requires { (n ≤ beyond) × (48 ≤ b) }
-    ensures { (result ≡ capped (n * 10 + (b - 48))) × (result ≤ beyond) }
-{
-    (n * 10 + usize::from(b - b'0')).min(BEYOND)
-}
-
-// The size of digits, of any count.
-fn size_of(s: &[u8]) -> usize
-    ensures { result ≡ size_of s.now }
-{
-    if s.is_empty() {
-        return BEYOND;
-    }
-    let mut n = 0;
-    for b in s {
-        if !from_characters::is_digit(*b) {
-            return BEYOND;
-        }
-        n = grown(n, *b);
-    }
-    n
-}
-
-// The code of a number by its size and sign.
-#[tactic(auto, unfolding(crate::specs::Words::coded))]
-fn coded(n: usize, negative: bool) -> Option<u32>
-    ensures { result ≡ coded n negative }
-{
-    if Machine::SIZE < n {
-        return None;
-    }
-    if negative {
-        return Some((Machine::SIZE - n) as u32);
-    }
-    Some((Machine::SIZE + n) as u32)
-}
-
 // The code of a number in range, as the table of a program has it: its value + 8,388,607.
 pub fn number_of(w: &[u8]) -> Option<u32>
     ensures { result ≡ numeral_of w.now }
 {
-    let (sign, digits) = w.split_first()?;
-    if *sign == b'-' {
-        return coded(size_of(digits), true);
-    }
-    if *sign == b'+' {
-        return coded(size_of(digits), false);
-    }
-    coded(size_of(w), false)
+    numerals::read_decimal(w).ok()
 }
 
-// The place of a letter of arguments among the twelve; 12 for another byte, which no index reaches: an Option would be asked once, in `indexed`.
-fn letter_at(b: u8) -> u8
-    ensures { result ≡ letter_at b }
+// The place of a letter of arguments among the twelve.
+fn letter_at(b: u8) -> Option<u8>
+    ensures { Lettering b result }
 {
-    match b {
+    Some(match b {
         b'A' => 0,
         b'B' => 1,
         b'C' => 2,
@@ -214,38 +169,21 @@ fn letter_at(b: u8) -> u8
         b'T' => 9,
         b'Y' => 10,
         b'Z' => 11,
-        _ => 12,
-    }
-}
-
-// How far the indices of the letter at a place go.
-fn reach(place: u8) -> usize
-    ensures { (result ≡ reach place) × (result ≤ 32) }
-{
-    if place == 5 {
-        return Machine::INPUTS;
-    }
-    if place == 8 {
-        return Machine::OUTPUTS;
-    }
-    Machine::EXPRESSIONS
+        _ => return None,
+    })
 }
 
 pub fn indexed(w: &[u8]) -> Option<Lettered>
     ensures { result ≡ indexed_of w.now }
 {
-    if w.len() < 2 {
+    let (first, digits) = w.split_first()?;
+    let place = letter_at(*first)?;
+    let leading = digits.first()?;
+    if *leading <= b'0' {
         return None;
     }
-    let place = letter_at(w[0]);
-    if 11 < place {
-        return None;
-    }
-    if w[1] <= b'0' {
-        return None;
-    }
-    let n = size_of(&w[1..]);
-    if reach(place) < n {
+    let n = numerals::measure(digits)?;
+    if table::letter_by(u32::from(place)).reach() < n {
         return None;
     }
     Some(Lettered {
@@ -350,14 +288,14 @@ fn keyword_at(j: u8) -> Keyword
     }
 }
 
-// The editions that have the Polish word at place j: both have KONP and STOP.
-fn edition_at(j: u8) -> Edition
+// The edition whose own the Polish word at place j is: both have KONP and STOP.
+fn edition_at(j: u8) -> Option<Edition>
     ensures { result ≡ edition_at j }
 {
     if (j == 2) | (j == 45) {
-        Edition::Both
+        None
     } else {
-        Edition::Polish
+        Some(Edition::Polish)
     }
 }
 
@@ -374,7 +312,7 @@ pub fn keyword_of(w: &[u8]) -> Option<Known>
     let k = Lexicon::of(true).place(w)?;
     Some(Known {
         keyword: keyword_at(k),
-        edition: Edition::English,
+        edition: Some(Edition::English),
     })
 }
 

@@ -5,7 +5,7 @@ use Rattle.arguments.specs.ReadLaws.{Gathering}
 use Rattle.arguments.proofs.read_arguments.Given as goal
 
 abbrev pub invariant-loop-live : goal.invariant-loop-live
-invariant-loop-live l = Gathering l.text l.initial.i l.op l.worst l.i l.live l.place l.values l.low
+invariant-loop-live l = Gathering l.text l.initial.i l.op l.fn.worst l.i l.live l.place l.values l.low
 
 abbrev pub decreases-loop-live : goal.decreases-loop-live
 decreases-loop-live l = length l.text - l.i

@@ -1,4 +1,5 @@
 -- `declaring::write_instruction` meets its contract.
+use mathlib.Core.Path.{◌∙◌}
 use Rattle.declaring.proofs.Instructing.{labelling, asked, instr-room, instr-written}
 use Rattle.declaring.proofs.write_instruction.Goals as goal
 
@@ -15,7 +16,7 @@ pub argument_cell-requires-3 : goal.argument_cell-requires-3
 argument_cell-requires-3 c = asked c.requires c.instructions-target.ensures.is c.put_labels.ensures 2
 
 pub put_instruction-requires : goal.put_instruction-requires
-put_instruction-requires c = instr-room c.requires c.instructions-target.ensures.is c.put_labels.ensures c.from.ensures c.argument_cell.ensures c.argument_cell-2.ensures c.argument_cell-3.ensures
+put_instruction-requires c = instr-room c.requires c.instructions-target.ensures.is c.put_labels.ensures (c.from-2.ensures ∙ c.from.ensures) c.argument_cell.ensures c.argument_cell-2.ensures c.argument_cell-3.ensures
 
 pub returns : goal.returns
-returns c = instr-written c.requires c.instructions-target.ensures.is c.put_labels.ensures c.from.ensures c.argument_cell.ensures c.argument_cell-2.ensures c.argument_cell-3.ensures c.put_instruction.ensures
+returns c = instr-written c.requires c.instructions-target.ensures.is c.put_labels.ensures (c.from-2.ensures ∙ c.from.ensures) c.argument_cell.ensures c.argument_cell-2.ensures c.argument_cell-3.ensures c.put_instruction.ensures

@@ -20,25 +20,25 @@ enter_entry-requires c =
     let tx = c.args.texts.now in
     let q = c.entries-held.ensures.is in
     let l = c.loop-entry-test.true in
-    row-enterable c.requires c.loop-entry.invariant (c.min-end.ensures ∙ ap (λ (m : ℕ). min (m + c.args.d.words) 128) q) (part-place tx _ _ q l) (part-cell tx _ _ q l)
+    row-enterable c.requires c.loop-entry.invariant (c.min-end.ensures ∙ ap (λ (m : ℕ). min (m + c.args.d.list.words) 128) q) (part-place tx _ _ q l) (part-cell tx _ _ q l)
 
 pub returns-in-Err : goal.returns-in-Err
 returns-in-Err c =
     let tx = c.args.texts.now in
     let q = c.entries-held.ensures.is in
     let l = c.loop-entry-test.true in
-    text-refused c.requires c.loop-entry.invariant (c.min-end.ensures ∙ ap (λ (m : ℕ). min (m + c.args.d.words) 128) q) (part-place tx _ _ q l) (part-cell tx _ _ q l) c.enter_entry.ensures c.in-Err.is
+    text-refused c.requires c.loop-entry.invariant (c.min-end.ensures ∙ ap (λ (m : ℕ). min (m + c.args.d.list.words) 128) q) (part-place tx _ _ q l) (part-cell tx _ _ q l) c.enter_entry.ensures c.in-Err.is
 
 pub loop-entry-preserved : goal.loop-entry-preserved
 loop-entry-preserved c =
     let tx = c.args.texts.now in
     let q = c.entries-held.ensures.is in
     let l = c.loop-entry-test.true in
-    entering-more c.requires c.loop-entry.invariant (c.min-end.ensures ∙ ap (λ (m : ℕ). min (m + c.args.d.words) 128) q) (part-place tx _ _ q l) (part-cell tx _ _ q l) c.enter_entry.ensures c.in_default.is
+    entering-more c.requires c.loop-entry.invariant (c.min-end.ensures ∙ ap (λ (m : ℕ). min (m + c.args.d.list.words) 128) q) (part-place tx _ _ q l) (part-cell tx _ _ q l) c.enter_entry.ensures c.in_default.is
     (omega arith)
 
 pub returns : goal.returns
 returns c =
     let q = c.entries-held.ensures.is in
-    texts-entered c.requires c.loop-entry.invariant (c.min-end.ensures ∙ ap (λ (m : ℕ). min (m + c.args.d.words) 128) q)
+    texts-entered c.requires c.loop-entry.invariant (c.min-end.ensures ∙ ap (λ (m : ℕ). min (m + c.args.d.list.words) 128) q)
     (part-end c.args.texts.now _ _ q (omega (arith, c.min-end.ensures, c.requires.list.text_room)) c.loop-entry-test.false)

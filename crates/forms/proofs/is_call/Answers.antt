@@ -1,6 +1,6 @@
 -- `is_call` meets its contract.
-use Rattle.forms.proofs.Tables.{called}
+use Rattle.forms.proofs.Tables.{calls_by}
 use Rattle.forms.proofs.is_call.Goals as goal
 
-pub returns-in-Ok : goal.returns-in-Ok
-returns-in-Ok c = called c.try_from.ensures c.in-Ok.is c.calling.ensures
+pub returns : goal.returns
+returns c = calls_by c.try_from.result c.ranges.op.fits c.try_from.ensures c.is_ok_and.ensures

@@ -5,7 +5,7 @@ use Rattle.headings.specs.HeadingLaws.{Reading}
 use Rattle.headings.proofs.read_tail.Given as goal
 
 abbrev pub invariant-loop-first : goal.invariant-loop-first
-invariant-loop-first l = Reading l.text l.first l.worst l.more l.w l.i
+invariant-loop-first l = Reading l.text l.first l.fn.worst l.more l.w l.i
 
 abbrev pub decreases-loop-first : goal.decreases-loop-first
 decreases-loop-first l = length l.text - l.i

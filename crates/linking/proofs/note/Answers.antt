@@ -5,9 +5,9 @@ use Rattle.linking.proofs.Faults.{joined-none, joined-one}
 use Rattle.linking.proofs.note.Goals as goal
 
 pub returns-then-fine : goal.returns-then-fine
-returns-then-fine c = rw c.if-fine.true (c.rebuilt.ensures ∙ joined-none c.args.f)
+returns-then-fine c = rw c.if-fine.true (joined-none c.args.f)
 
-pub returns : goal.returns
-returns c =
+pub returns-else-fine : goal.returns-else-fine
+returns-else-fine c =
     let a = c.args in
     rw c.if-fine.false (c.lower.ensures ∙ joined-one a.f (place_by a.m))

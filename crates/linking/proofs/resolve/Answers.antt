@@ -17,10 +17,10 @@ pub resolve_entries-requires : goal.resolve_entries-requires
 resolve_entries-requires c = entries-labelled c.args.text.now c.args.table.now c.args.sw.now c.args.en.now c.undeclared_label.ensures (search rules) c.requires c.resolve_code.ensures
 
 pub returns-in-Some : goal.returns-in-Some
-returns-in-Some c = no_label c.args.text.now c.args.table.now c.args.sw.now c.args.en.now c.in-Some.p c.undeclared_label.ensures c.in-Some.is
+returns-in-Some c = no_label c.args.text.now c.args.table.now c.args.sw.now c.args.en.now c.in-Some.at c.undeclared_label.ensures c.in-Some.is
 
 pub returns-in-Some-undeclared_switch : goal.returns-in-Some-undeclared_switch
-returns-in-Some-undeclared_switch c = no_switch c.args.text.now c.args.table.now c.args.sw.now c.args.en.now c.undeclared_label.ensures (search rules) c.in-Some-undeclared_switch.p c.undeclared_switch.ensures c.in-Some-undeclared_switch.is
+returns-in-Some-undeclared_switch c = no_switch c.args.text.now c.args.table.now c.args.sw.now c.args.en.now c.undeclared_label.ensures (search rules) c.in-Some-undeclared_switch.at c.undeclared_switch.ensures c.in-Some-undeclared_switch.is
 
 pub returns : goal.returns
 returns c = all-linked c.args.text.now c.args.table.now c.args.sw.now c.args.en.now c.undeclared_label.ensures (search rules) c.undeclared_switch.ensures (search rules) c.resolve_code.ensures c.resolve_entries.ensures

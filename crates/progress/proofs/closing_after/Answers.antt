@@ -10,5 +10,5 @@ returns-then-stops c = λ s n section g f. labels-only g section (sym c.stops.en
 
 pub returns : goal.returns
 returns c =
-    λ s n section g f. closes g section (sym c.stops.ensures ∙ c.if-stops.false) f (c.is_kons.ensures ∙ ap is_kons c.keyword-keyword.ensures) (c.is_konp-konp.ensures ∙ ap is_konp c.keyword-keyword.ensures) (c.then_some-now_early.ensures ∙ place-if _ _) c.lower.ensures
-    c.closing_fault-now_fault.ensures c.lower-2.ensures
+    λ s n section g f. closes g section (sym c.stops.ensures ∙ c.if-stops.false) f (c.is_kons.ensures ∙ ap is_kons c.keyword-keyword.ensures) (c.is_konp-konp.ensures ∙ ap is_konp c.keyword-keyword.ensures) (c.then_some-early.ensures ∙ place-if _ _) c.lower.ensures
+    c.closing_fault.ensures c.lower-2.ensures

@@ -6,5 +6,5 @@ use Rattle.progress.proofs.order_fault.Goals as goal
 pub returns-then-c : goal.returns-then-c
 returns-then-c c = rw c.if-c.true refl
 
-pub returns : goal.returns
-returns c = rw c.if-c.false (fault-one c.args.last)
+pub returns-else-c : goal.returns-else-c
+returns-else-c c = rw c.if-c.false (fault-one c.args.last)

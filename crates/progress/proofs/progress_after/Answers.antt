@@ -21,5 +21,5 @@ returns c =
     let a = c.requires in
     let from = c.first_waiting-from.ensures in
     λ s n g section after.
-    advances g (omega (arith, a.few, a.order)) a.most section c.english_after.ensures refl (rw from at c.waiting_after.ensures)
+    advances g (omega (arith, a.few, a.order)) a.most section c.edition_after.ensures refl (rw from at c.waiting_after.ensures)
     (rw from at c.lowest_mark-labels.ensures) (c.closing_after.ensures s n _ g after) (c.ended_after.ensures s n g)

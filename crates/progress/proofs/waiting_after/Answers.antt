@@ -5,5 +5,5 @@ use Rattle.progress.proofs.waiting_after.Goals as goal
 pub returns-then-stops : goal.returns-then-stops
 returns-then-stops c = rw (sym c.stops.ensures ∙ c.if-stops.true) refl
 
-pub returns : goal.returns
-returns c = rw (sym c.stops.ensures ∙ c.if-stops.false) refl
+pub returns-else-stops : goal.returns-else-stops
+returns-else-stops c = rw (sym c.stops.ensures ∙ c.if-stops.false) refl

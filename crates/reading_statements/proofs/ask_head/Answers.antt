@@ -1,6 +1,7 @@
 -- `reading_statements::ask_head` meets its contract.
 use Rattle.statements.specs.StatementAt.{statement_at}
 use mathlib.Core.Path.{sym, ap, ◌≡◌, ◌∙◌}
+use native.Mathlib.Omega.{arith}
 use Rattle.std.proofs.Common.{rules, Err}
 use Rattle.acceptance.proofs.RowLaws.{answered}
 use Rattle.statements.specs.Faults.{decided, then, verdict_of}
@@ -12,25 +13,32 @@ use Rattle.reading_statements.proofs.ask_head.Goals as goal
 pub first_waiting-requires : goal.first_waiting-requires
 first_waiting-requires c = c.requires.judging.tells.waiting.few
 
-pub label_fault-requires : goal.label_fault-requires
-label_fault-requires c = let p = c.requires in rw c.first_waiting.ensures (gathering.labelled p.judging (answered _ (items-told p.judging p.worst_is ∙ (sym c.checked.ensures ∙ ap verdict_of c.in_ok-checked.was))))
+pub slice_bounds-label_fault-start : goal.slice_bounds-label_fault-start
+slice_bounds-label_fault-start c =
+    let p = c.requires in
+    omega (arith, c.first_waiting.ensures, (gathering.labels-inside p.judging (answered _ (items-told c.args.text.now p.place p.worst_is ∙ ap verdict_of c.in_ok-worst.was))).0)
+
+pub slice_bounds-label_fault-end : goal.slice_bounds-label_fault-end
+slice_bounds-label_fault-end c =
+    let p = c.requires in
+    (gathering.labels-inside p.judging (answered _ (items-told c.args.text.now p.place p.worst_is ∙ ap verdict_of c.in_ok-worst.was))).1
 
 pub ask_names-named-requires : goal.ask_names-named-requires
 ask_names-named-requires c =
     let p = c.requires in
-    let r = gathering.repeatable p.judging (answered _ (items-told p.judging p.worst_is ∙ (sym c.checked.ensures ∙ ap verdict_of c.in_ok-checked.was))) in
+    let r = gathering.repeatable p.judging (answered _ (items-told c.args.text.now p.place p.worst_is ∙ ap verdict_of c.in_ok-worst.was)) in
     (r, (gathering.advanceable p.judging).order)
 
-pub returns-in_err-checked : goal.returns-in_err-checked
-returns-in_err-checked c = λ n d j e z.
-    let f : c.from_residual.result ≡ Err c.in_err-checked.field-0.0 = search rules in
-    ap verdict_of f ∙ sym (opening-told d (statement_at c.args.text.now n) (items-told j e ∙ sym c.checked.ensures ∙ ap verdict_of c.in_err-checked.was))
+pub returns-in_err-worst : goal.returns-in_err-worst
+returns-in_err-worst c = λ n d j e z.
+    let f : c.from_residual.result ≡ Err c.in_err-worst.field-0.0 = search rules in
+    ap verdict_of f ∙ sym (opening-told d (statement_at c.args.text.now n) (items-told c.args.text.now n e ∙ ap verdict_of c.in_err-worst.was))
 
 pub returns : goal.returns
 returns c =
     λ n d j e z.
     let x = statement_at c.args.text.now n in
-    let q = items-told j e ∙ (sym c.checked.ensures ∙ ap verdict_of c.in_ok-checked.was) in
+    let q = items-told c.args.text.now n e ∙ ap verdict_of c.in_ok-worst.was in
     let plain = answered _ q in
     let first = j.tells.section.first_is ∙ none-asked c.is_none.result c.args.p.section c.is_none.ensures in
     names-told d x first j.tells.edition.is (c.ask_operator-operator.ensures _ n j.headed (λ e. z (first ∙ e)))

@@ -1,9 +1,15 @@
--- `scanner::scan_text` meets its contract: the table lent is that of the definition.
-use mathlib.Core.Path.{refl}
-use Rattle.syntax.specs.Below.Characters.{known_marks}
-use borrow.Author.Rules.{rules}
+-- `scanner::scan_text` meets its contract.
+use Rattle.std.proofs.Common.{refl, sym, ◌∙◌}
+use Rattle.scanner.proofs.Loops.{byte-is, scan-on, scan-ends, scan-out}
 use Rattle.scanner.proofs.scan_text.Goals as goal
 
-pub scan_by-requires : goal.scan_by-requires
-unfolding known_marks
-scan_by-requires c = (search rules, refl)
+pub returns-then-ends_text : goal.returns-then-ends_text
+returns-then-ends_text c = rw c.then_some.ensures (scan-ends c.loop-i.invariant _ c.loop-i-test.true (sym c.ends_text.ensures ∙ c.if-ends_text.true) refl)
+
+pub loop-i-preserved : goal.loop-i-preserved
+loop-i-preserved c =
+    let on = scan-on c.loop-i.invariant c.loop-i-test.true (sym c.ends_text.ensures ∙ c.if-ends_text.false) in
+    rw (c.from-count.ensures, byte-is, c.takes_next-star.ensures, c.allows-good.ensures) on
+
+pub returns : goal.returns
+returns c = scan-out c.loop-i.invariant c.loop-i-test.false

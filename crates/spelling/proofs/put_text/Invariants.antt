@@ -4,5 +4,5 @@ use lib.ListN.{length}
 use Rattle.spelling.proofs.Chars.{Putting}
 use Rattle.spelling.proofs.put_text.Given as goal
 
-abbrev pub invariant-loop-i : goal.invariant-loop-i
-invariant-loop-i l = (length l.out ≡ length l.initial.out) × Putting l.text l.at l.end l.initial.out l.i l.j l.star l.out
+abbrev pub invariant-loop-b : goal.invariant-loop-b
+invariant-loop-b l = (length l.out ≡ length l.initial.out) × Putting l.b-items 0 (length l.b-items) l.initial.out l.b-index l.j l.star l.out

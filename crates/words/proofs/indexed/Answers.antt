@@ -1,24 +1,53 @@
 -- `words::indexed` meets its contract: a letter, and digits after it that are no more than its indices and do not begin with 0.
-use Rattle.words.proofs.Numbers.{rest_of}
-use Rattle.words.proofs.Indices.{indexed-short, indexed-other, indexed-zero, indexed-beyond, indexed-found}
+use mathlib.Core.Path.{sym, ◌∙◌}
+use Prim.Native.Nat.{◌<◌}
 use native.Mathlib.Omega.{arith}
+use borrow.Author.Tests.{ltb-false}
+use borrow.Author.Rules.{rules}
+use Rattle.words.proofs.Indices.{indexed_none, indexed-other, indexed-short, indexed-zero, indexed-no, indexed-beyond, indexed-found}
 use Rattle.words.proofs.indexed.Goals as goal
 
-pub returns-then-w-lt2 : goal.returns-then-w-lt2
-returns-then-w-lt2 c = indexed-short c.args.w.now c.if-w-lt2.true
+pub returns-in_err-first : goal.returns-in_err-first
+returns-in_err-first c = c.from_residual.ensures ∙ indexed_none c.args.w.now c.in_err-first.ensures.cases
 
-pub returns-then-place-gt11 : goal.returns-then-place-gt11
-returns-then-place-gt11 c = indexed-other c.args.w.now (omega (arith, c.shared_slice_known-2-1.given 0)) (rw c.letter_at-place.ensures at c.if-place-gt11.true)
+pub returns-in_err-place : goal.returns-in_err-place
+returns-in_err-place c =
+    let small : c.in_ok-first.first.now < 256 = search rules in
+    c.from_residual-in_err-place.ensures ∙ rw c.in_ok-first.ensures.cases.0 (indexed-other c.in_ok-first.first.now c.in_ok-first.digits.now small c.in_err-place.ensures)
 
-pub returns-then-w-le48 : goal.returns-then-w-le48
-returns-then-w-le48 c = indexed-zero c.args.w.now (omega (arith, c.shared_slice_known-2-1.given 0)) (rw c.letter_at-place.ensures at c.if-place-gt11.false) c.if-w-le48.true
+pub returns-in_err-leading : goal.returns-in_err-leading
+returns-in_err-leading c =
+    let small : c.in_ok-first.first.now < 256 = search rules in
+    let k = c.in_ok-place.ensures in
+    let none = ltb-false _ _ (sym c.in_err-leading.ensures.item.0) in
+    c.from_residual-in_err-leading.ensures
+    ∙ rw c.in_ok-first.ensures.cases.0 (indexed-short c.in_ok-first.first.now c.in_ok-first.digits.now small (omega (arith, k.0, k.1)) (omega (arith, none)))
+
+pub returns-then-leading-le48 : goal.returns-then-leading-le48
+returns-then-leading-le48 c =
+    let small : c.in_ok-first.first.now < 256 = search rules in
+    let k = c.in_ok-place.ensures in
+    let l = c.in_ok-leading.ensures.item.3.1 0 in
+    rw c.in_ok-first.ensures.cases.0 (indexed-zero c.in_ok-first.first.now c.in_ok-first.digits.now small (omega (arith, k.0, k.1)) (omega (arith, l, c.if-leading-le48.true)))
+
+pub returns-in_err-n : goal.returns-in_err-n
+returns-in_err-n c =
+    let small : c.in_ok-first.first.now < 256 = search rules in
+    let k = c.in_ok-place.ensures in
+    c.from_residual-in_err-n.ensures
+    ∙ rw c.in_ok-first.ensures.cases.0 (indexed-no c.in_ok-first.first.now c.in_ok-first.digits.now small (omega (arith, k.0, k.1)) (sym c.in_err-n.ensures))
 
 pub returns-then-reach-n : goal.returns-then-reach-n
-returns-then-reach-n c = let l = rw (c.reach.ensures.0, c.letter_at-place.ensures, c.size_of-n.ensures, rest_of c.args.w.now) at c.if-reach-n.true in
-    let m = rw (c.reach.ensures.0, c.letter_at-place.ensures) at c.reach.ensures.1 in
-    indexed-beyond c.args.w.now (omega (arith, c.shared_slice_known-2-1.given 0)) (rw c.letter_at-place.ensures at c.if-place-gt11.false) m l
+returns-then-reach-n c =
+    let small : c.in_ok-first.first.now < 256 = search rules in
+    let k = c.in_ok-place.ensures in
+    let r = rw (c.letter_by.ensures, c.from.ensures, k.0) at c.reach.ensures in
+    rw c.in_ok-first.ensures.cases.0 (indexed-beyond c.in_ok-first.first.now c.in_ok-first.digits.now small (omega (arith, k.0, k.1)) (omega (arith, r.0, r.1)) (sym c.in_ok-n.ensures) (omega (arith, r.0, c.if-reach-n.true)))
 
 pub returns : goal.returns
-returns c = let l = rw (c.reach.ensures.0, c.letter_at-place.ensures, c.size_of-n.ensures, rest_of c.args.w.now) at c.if-reach-n.false in
-    let m = rw (c.reach.ensures.0, c.letter_at-place.ensures) at c.reach.ensures.1 in
-    rw (c.letter_at-place.ensures, c.size_of-n.ensures, rest_of c.args.w.now) (indexed-found c.args.w.now (omega (arith, c.shared_slice_known-2-1.given 0)) (rw c.letter_at-place.ensures at c.if-place-gt11.false) m c.if-w-le48.false l)
+returns c =
+    let small : c.in_ok-first.first.now < 256 = search rules in
+    let k = c.in_ok-place.ensures in
+    let r = rw (c.letter_by.ensures, c.from.ensures, k.0) at c.reach.ensures in
+    let l = c.in_ok-leading.ensures.item.3.1 0 in
+    rw (c.in_ok-first.ensures.cases.0, k.0) (indexed-found c.in_ok-first.first.now c.in_ok-first.digits.now small (omega (arith, k.0, k.1)) (omega (arith, r.0, r.1)) (omega (arith, l, c.if-leading-le48.false)) (sym c.in_ok-n.ensures) (omega (arith, r.0, c.if-reach-n.false)))
