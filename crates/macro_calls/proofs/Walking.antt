@@ -1,19 +1,19 @@
 -- Bodies one after the other, and the changes of a body.
-use mathlib.Core.Path.{◌≡◌, refl, sym, ap, subst, ◌∙◌}
-use mathlib.Core.List.{List, [], ◌∷◌, ◌++◌, append-nil}
-use Prim.Native.Nat.{ℕ, ◌+◌, ◌*◌, ◌≤◌, ◌<◌}
-use native.Mathlib.Omega.{arith}
-use lib.ListN.{get_or}
+use Rattle.std.specs.Prelude.{◌≡◌, refl, List, [], ◌∷◌, ◌++◌, ℕ, ◌+◌, get_or}
+use Rattle.std.proofs.Common.{sym, ap, ◌∙◌, append_assoc, append-nil}
+use Rattle.std.proofs.Math.Path.{subst}
 use Rattle.lists.specs.Lists.{each}
 use Rattle.layout.specs.Cells.{tab}
 use Rattle.macros.specs.Expansion as met
 use Rattle.macros.specs.Macros.{Macro}
 use Rattle.macros.specs.Pieces.{Piece}
 use Rattle.macros.specs.Prepared.{piece_faults}
-use Rattle.macro_code.specs.Code.{change_in, size_at, changes_in, behind_changes, first_change, change_count, body_in, macro_in, macros_in}
-use Rattle.macro_code.specs.Bounds.{near, far}
+use Rattle.macro_code.specs.ChangeLaws.{changes-turn, changes-done}
+use Rattle.macro_code.specs.Changes.{StartsAt, Gives}
+use Rattle.macro_code.specs.Code.{change_in, changes_in, body_in, macro_in, macros_in}
+use Rattle.macro_code.specs.declared.changes.Changes.{Changes}
 use Rattle.macro_calls.specs.Calls.{change_faults, typed_in, Told, none_of, both_of}
-use Rattle.macro_calls.specs.FaultLaws.{changes-next, behind-next, behind-most, body-faults, told_none, told-both}
+use Rattle.macro_calls.specs.FaultLaws.{body-faults, told_none, told-both}
 use Rattle.macro_calls.specs.TableLaws.{each_append, tab-next}
 use Rattle.macro_calls.specs.declared.Faults.{Faults}
 
@@ -24,36 +24,30 @@ module _ {X : Type 0} (g : X → List met.Fault) where
       let both : each g xs ++ g x ≡ each g ys = ap (λ fs. each g xs ++ fs) (sym (append-nil (g x))) ∙ sym (each_append g xs (x ∷ [])) ∙ ap (each g) (sym e) in
       rw f (subst (λ fs. Told fs (both_of a b)) both (told-both h k))
 
--- the first k changes of the body at the cell q are passed, and the next is at i
-pub record Walking (ms : List Macro) (s c : List ℕ) (q i k : ℕ) (r : Faults) : Type 0 where
-  pub low : first_change c q < near + near
-  pub at : i ≡ behind_changes c (first_change c q) k
-  pub told : Told (each (change_faults ms) (changes_in s c (first_change c q) k)) r
-
--- the cell of a change is not far
-pub not-far : {ms : List Macro} {s c : List ℕ} {q i k : ℕ} {r : Faults} → Walking ms s c q i k r → k ≤ change_count c q → i < far
-not-far {ms} {s} {c} {q} {i} {k} w l =
-    let bound : behind_changes c (first_change c q) k ≤ first_change c q + 131074 * k = behind-most c (first_change c q) k in
-    omega (arith, w.at, l, w.low, bound)
+-- some changes of the body at the cell q are passed, and the others are left
+pub record Walking (ms : List Macro) (s c : List ℕ) (q : ℕ) (left : Changes) (r : Faults) : Type 0 where
+  pub code : left.coded.code.now ≡ c
+  pub passed : List met.Fault
+  pub told : Told passed r
+  pub is : each (piece_faults ms) (body_in s c q) ≡ passed ++ each (change_faults ms) (changes_in s c left.cell left.left)
 
 module _ (ms : List Macro) (s c : List ℕ) (q : ℕ) where
-  pub walking-first : {i : ℕ} → i ≡ first_change c q → i < near + near → Walking ms s c q i 0 none_of
-  unfolding changes_in behind_changes
-  walking-first e l = record { low = omega (arith, e, l); at = e; told = told_none }
+  pub walking-first : {left : Changes} → StartsAt c q left → Walking ms s c q left none_of
+  walking-first h = record { code = h.code_is; passed = []; told = told_none; is = rw (h.cell_is, h.left_is) (body-faults ms s c q) }
 
-  module _ {i k : ℕ} {r : Faults} (w : Walking ms s c q i k r) where
-    pub walking_on : {f g : Faults} → Told (change_faults ms (change_in s c i)) f → g ≡ both_of r f → {n : ℕ} → n ≡ size_at c i
-        → Walking ms s c q (i + n) (k + 1) g
-    walking_on {f} {g} h e {n} z =
+  module _ {left : Changes} {r : Faults} (w : Walking ms s c q left r) where
+    pub walking_on : {i : ℕ} {after : Changes} → Gives left i after → {f g : Faults} → Told (change_faults ms (change_in s c i)) f → g ≡ both_of r f → Walking ms s c q after g
+    walking_on {i} {after} gives {f} {g} h e =
         record {
-          low = w.low;
-          at = rw (z, w.at) (sym (behind-next c (first_change c q) k));
-          told = told_more (change_faults ms) (changes_in s c (first_change c q) k) (change_in s c (behind_changes c (first_change c q) k)) (changes-next s c (first_change c q) k) w.told (rw w.at at h) e;
+          code = gives.code_stays ∙ w.code;
+          passed = w.passed ++ change_faults ms (change_in s c i);
+          told = rw e (told-both w.told h);
+          is = w.is ∙ ap (λ ds. w.passed ++ each (change_faults ms) ds) (changes-turn s c left w.code gives)
+              ∙ sym (append_assoc w.passed (change_faults ms (change_in s c i)) (each (change_faults ms) (changes_in s c after.cell after.left)));
         }
 
-    pub walking-end : k ≡ change_count c q → Told (each (piece_faults ms) (body_in s c q)) r
-    walking-end e =
-        rw (body-faults ms s c q) (rw e at w.told)
+    pub walking-end : left.left ≡ 0 → Told (each (piece_faults ms) (body_in s c q)) r
+    walking-end e = rw (w.is, changes-done s c left w.code e, append-nil w.passed) w.told
 
 -- the bodies of the first k macros
 pub record PassingBodies (s c firsts : List ℕ) (n k : ℕ) (r : Faults) : Type 0 where

@@ -27,7 +27,7 @@ use Rattle.scanner.specs.Sorts.{sort_in}
 use Rattle.lexer.proofs.Finding.{one_sort}
 use Rattle.macro_changes.specs.Changing.{shuts, inside, stop_of, InsideAt, GivenAt, given_from, ends_from, argument_faults, Named, EndsCall}
 use Rattle.macro_changes.proofs.Searching.{from-off}
-use Rattle.macro_changes.proofs.Giving.{keep-first, one-fault, inside_shut, inside_on, behind-on, given_here, given-on}
+use Rattle.macro_changes.proofs.Giving.{keep-first, one-fault, inside_shut, stretch-on, rest-on, given_here, given-on}
 
 -- the name
 pub no_name : {s : List ℕ} {closing : Bool} {star n : ℕ} → given_from s closing n ≡ [] → Named s closing star n (Some star)
@@ -85,8 +85,8 @@ module _ {s : List ℕ} {closing : Bool} {n : ℕ} (size : length s ≤ 32768) (
     pub ends-at_end : {r : ℕ} → is_end (argument_value s t) ≡ true → r ≡ t.at + cond (eqb t.byte 59) 1 0 → EndsCall s closing n (record { stop = r; next = t.next })
     unfolding call_stop
     ends-at_end {r} e f =
-        let i : InsideAt s closing n t = (record { first = k; inner = end-open closing (argument_value s t) (ap sort_in (one_sort (Some Sort.End) (Some t.sort) e)) }) in
-        let on = inside_on i in
+        let i : InsideAt s closing n t = (record { first = k; fails = end-open closing (argument_value s t) (ap sort_in (one_sort (Some Sort.End) (Some t.sort) e)) }) in
+        let on = stretch-on i in
         let z = k.more in
         let g : r ≡ cond (eqb t.byte 59) (t.at + 1) t.at = f ∙ added (eqb t.byte 59) in
         let ends : ends_from s closing n ≡ argument_value s t ∷ inside s closing t.next = ap (from is_end) on ∙ from-off is_end (argument_value s t) (inside s closing t.next) e in
@@ -96,7 +96,7 @@ module _ {s : List ℕ} {closing : Bool} {n : ℕ} (size : length s ≤ 32768) (
           stop_most = most_of (eqb t.byte 59) g (omega (arith, k.held.most)) (omega (arith, k.held.most));
           stop_is = g ∙ rw ends refl;
           on = sym (ap (drop 1) ends);
-          rest = sym (behind-on i);
+          rest = sym (rest-on i);
         }
       where
         added : (b : Bool) → t.at + cond b 1 0 ≡ cond b (t.at + 1) t.at
@@ -114,7 +114,7 @@ module _ {s : List ℕ} {closing : Bool} {n : ℕ} (size : length s ≤ 32768) (
         go true e =
             shut-here (inside_shut k closing e) (let z = k.more in omega (arith, k.held.most))
             (sym (ap (λ (ts : List spec.Element). if_any (length s) (λ y. y.at) ts) (ap (from (shuts closing)) k.is ∙ from-off (shuts closing) (argument_value s t) (elements_from s t.next) e)))
-        go false e = absurd (false≢true (ap filled (sym d ∙ given-on (given_here (record { first = k; inner = e }) a))))
+        go false e = absurd (false≢true (ap filled (sym d ∙ given-on (given_here closing (record { first = k; fails = e }) a))))
 
 -- the faults of a call, with those of the name tried as an argument too
 good-argument : (ps : List (List ℕ)) (t : spec.Element) → (is_identifier t && not (filled t.joined)) ≡ true → is_argument ps t ≡ true

@@ -1,19 +1,18 @@
 -- Elements one by one, and what a call gives.
-use mathlib.Core.Path.{◌≡◌, refl, ap, sym, ◌∙◌, subst}
-use mathlib.Core.Bool.{Bool, true, false, cond, not, ◌&&◌, ◌||◌, true≢false}
+use mathlib.Core.Path.{◌≡◌, refl, ap, sym, ◌∙◌}
+use mathlib.Core.Bool.{Bool, true, false, cond, not, ◌&&◌, ◌||◌, true≢false, false≢true}
 use mathlib.Core.List.{List, [], ◌∷◌, ◌++◌, map, append_assoc}
 use Prim.Native.Nat.{ℕ, min, ◌+◌, ◌*◌, ◌-◌, ◌/◌, ◌≤◌, ◌<◌}
 use native.Mathlib.Omega.{arith}
 use Rattle.std.specs.Prelude.{Option, Some, None, IfSome, is_some, unwrap_or}
 use Rattle.std.specs.Bool.{then_some}
-use Rattle.std.proofs.lemmas.Option.{none-some, same_Some}
 use lib.Dec.{ltb}
 use lib.ListN.{length, set}
 use borrow.Author.Tests.{lt-ltb, le-ltb}
 use Rattle.layout.specs.Cells.{tab}
 use Rattle.layout.proofs.CellLaws.{length-tab}
 use Rattle.lexer.specs.Tokens.{part}
-use Rattle.lists.specs.Lists.{keep, bytes_equal}
+use Rattle.lists.specs.Lists.{filled, keep, bytes_equal}
 use Rattle.statements.specs.Faults.{Fault}
 use Rattle.std.specs.Prelude.{None, Some}
 use Rattle.statements.specs.Faults.{lower}
@@ -25,9 +24,9 @@ use Rattle.macros.specs.Elements.{is_word, is_end, is_identifier, places_in, unt
 use Rattle.macros.specs.Pieces.{Given, given_of, is_argument, is_parameter}
 use Rattle.macro_code.specs.Code.{high, paired, bytes_at, given_in}
 use Rattle.macro_code.specs.declared.Given.TheVariants.{Typed, Parameter, Joined}
-use Rattle.macro_elements.specs.ElementAt.{elements_from, argument_value, Held, FirstElement}
+use Rattle.macro_elements.specs.ElementAt.{elements_from, argument_value, Held, FirstElement, FirstBefore}
 use Rattle.macro_elements.specs.declared.Element.{Element}
-use Rattle.macro_changes.specs.Changing.{Kept, parameters_of, shuts, inside, behind, given_as, kind_in, number_in, Found, Judged, Reading, InsideAt, NextInside, GivenAt, NextGiven, given_from, ends_from, argument_faults, Gives}
+use Rattle.macro_changes.specs.Changing.{Kept, parameters_of, shuts, inside, given_as, kind_in, number_in, Found, Judged, Reading, InsideAt, GivenAt, ends_given, given_from, ends_from, argument_faults, Gives}
 use Rattle.macro_changes.specs.declared.Answer.{Answer}
 use Rattle.macro_changes.specs.Changing.{Scope, first_in, count_in}
 use Rattle.macro_changes.proofs.Cells.{tab-cong, tab-last, kept-none, kept_on, parameters-same, given-same, given-written, place-written, given-kept}
@@ -65,49 +64,47 @@ module _ {s : List ℕ} {n : ℕ} {t : Element} (k : FirstElement s n t) where
   pub inside_shut : (closing : Bool) → shuts closing (argument_value s t) ≡ true → inside s closing n ≡ []
   inside_shut closing h = ap (until (shuts closing)) k.is ∙ until-off (shuts closing) (argument_value s t) (elements_from s t.next) h
 
-pub inside_at : {s : List ℕ} {closing : Bool} {n : ℕ} {t : Element} → FirstElement s n t → shuts closing (argument_value s t) ≡ false → NextInside s closing n (Some t)
-inside_at {s} {closing} {n} {t} k h =
-    record { none = λ e. absurd (none-some t (sym e)); some = λ x e. subst (λ (u : Element). InsideAt s closing n u) (same_Some t x e) (record { first = k; inner = h }) }
+module _ {s : List ℕ} {n : ℕ} {t : Element} {p : spec.Element → Bool} (k : FirstBefore p s n t) where
+  pub stretch-on : until p (elements_from s n) ≡ argument_value s t ∷ until p (elements_from s t.next)
+  stretch-on = ap (until p) k.first.is ∙ until-on p (argument_value s t) (elements_from s t.next) k.fails
 
-pub inside_end : {s : List ℕ} {closing : Bool} {n : ℕ} → inside s closing n ≡ [] → NextInside s closing n None
-inside_end h = record { none = λ e. h; some = λ x e. absurd (none-some x e) }
+  pub rest-on : from p (elements_from s n) ≡ from p (elements_from s t.next)
+  rest-on = ap (from p) k.first.is ∙ from_on p (argument_value s t) (elements_from s t.next) k.fails
 
-module _ {s : List ℕ} {closing : Bool} {n : ℕ} {t : Element} (k : InsideAt s closing n t) where
-  pub inside_on : inside s closing n ≡ argument_value s t ∷ inside s closing t.next
-  inside_on = ap (until (shuts closing)) k.first.is ∙ until-on (shuts closing) (argument_value s t) (elements_from s t.next) k.inner
-
-  pub behind-on : behind s closing n ≡ behind s closing t.next
-  behind-on = ap (from (shuts closing)) k.first.is ∙ from_on (shuts closing) (argument_value s t) (elements_from s t.next) k.inner
-
-  pub given-end : is_end (argument_value s t) ≡ true → NextGiven s closing n None
-  given-end h =
-      record {
-        none = λ e. ap (until is_end) inside_on ∙ until-off is_end (argument_value s t) (inside s closing t.next) h;
-        some = λ x e. absurd (none-some x e);
-      }
-
+module _ {s : List ℕ} (closing : Bool) {n : ℕ} {t : Element} (k : InsideAt s closing n t) where
   pub given_here : is_end (argument_value s t) ≡ false → GivenAt s closing n t
   given_here h = record { inner = k; plain = h }
 
-  pub given_at : is_end (argument_value s t) ≡ false → NextGiven s closing n (Some t)
-  given_at h =
-      record { none = λ e. absurd (none-some t (sym e)); some = λ x e. subst (λ (u : Element). GivenAt s closing n u) (same_Some t x e) (given_here h) }
+pub given_first : {s : List ℕ} {closing : Bool} {n : ℕ} {t : Element} → FirstBefore (ends_given closing) s n t → GivenAt s closing n t
+given_first {s} {closing} {n} {t} k =
+    let z = neither (shuts closing (argument_value s t)) (is_end (argument_value s t)) k.fails in
+    given_here closing (record { first = k.first; fails = z.0 }) z.1
+
+-- where the first of either end is met at once, no stretch is left between them
+pub until-either : (p q : spec.Element → Bool) (ts : List spec.Element) → until (λ t. p t || q t) ts ≡ [] → until q (until p ts) ≡ []
+until-either p q [] e = refl
+until-either p q (t ∷ ts) e = go (p t) (q t) refl refl
+  where
+    go : (a b : Bool) → p t ≡ a → q t ≡ b → until q (until p (t ∷ ts)) ≡ []
+    go true b h k = ap (until q) (until-off p t ts h)
+    go false true h k = ap (until q) (until-on p t ts h) ∙ until-off q t (until p ts) k
+    go false false h k = absurd (false≢true (ap filled (sym e ∙ until-on (λ t. p t || q t) t ts (rw (h, k) refl))))
 
 module _ {s : List ℕ} {closing : Bool} {n : ℕ} {t : Element} (k : GivenAt s closing n t) where
   pub given-on : given_from s closing n ≡ argument_value s t ∷ given_from s closing t.next
-  given-on = ap (until is_end) (inside_on k.inner) ∙ until-on is_end (argument_value s t) (inside s closing t.next) k.plain
+  given-on = ap (until is_end) (stretch-on k.inner) ∙ until-on is_end (argument_value s t) (inside s closing t.next) k.plain
 
   pub ends_on : ends_from s closing n ≡ ends_from s closing t.next
-  ends_on = ap (from is_end) (inside_on k.inner) ∙ from_on is_end (argument_value s t) (inside s closing t.next) k.plain
+  ends_on = ap (from is_end) (stretch-on k.inner) ∙ from_on is_end (argument_value s t) (inside s closing t.next) k.plain
 
 -- What an element is as a name or an argument
 module _ (s c : List ℕ) (x : Scope) {t : Element} (held : Held s t) where
   abbrev ps : List (List ℕ)
   ps = parameters_of s c x
 
-  is_found : {at e r : ℕ} → Found s c x at e r → is_parameter ps (part s at e) ≡ ltb r (count_in x)
-  is_found {at} {e} {r} f =
-      any-ahead (bytes_equal (part s at e)) ps ∙ rw (length-tab (count_in x) (λ j. bytes_at s c ((first_in x) + j)), ← f.is) refl
+  is_found : {w : List ℕ} {r : ℕ} → Found s c x w r → is_parameter ps w ≡ ltb r (count_in x)
+  is_found {w} {r} f =
+      any-ahead (bytes_equal w) ps ∙ rw (length-tab (count_in x) (λ j. bytes_at s c ((first_in x) + j)), ← f.is) refl
 
   and_one : (a : Bool) → (a && true) ≡ a
   and_one true = refl
@@ -117,7 +114,7 @@ module _ (s c : List ℕ) (x : Scope) {t : Element} (held : Held s t) where
   listed-some (Some k) n h = sym (lt-ltb k n h)
   listed-some None n h = sym (le-ltb n n (omega arith))
 
-  pub joined-answer : {i : Bool} {b : ℕ} → t.joined ≡ Some b → (count_in x) < 65536 → (r : Option ℕ) → Found s c x (t.end + 1) b (unwrap_or r (count_in x)) → IfSome r (λ k. k < (count_in x))
+  pub joined-answer : {i : Bool} {b : ℕ} → t.joined ≡ Some b → (count_in x) < 65536 → (r : Option ℕ) → Found s c x (part s (t.end + 1) b) (unwrap_or r (count_in x)) → IfSome r (λ k. k < (count_in x))
       → i ≡ is_identifier (argument_value s t) → Judged s c x t (record { given = Joined (unwrap_or r (count_in x)); joins = i && is_some r })
   unfolding given_of given_as
   joined-answer {i} z few r f l e =
@@ -131,7 +128,7 @@ module _ (s c : List ℕ) (x : Scope) {t : Element} (held : Held s t) where
   unfolding given_of given_as
   other-answer z w = record { number_low = omega arith; given_is = rw (z, w) refl; joins_is = rw z refl }
 
-  module _ (z : t.joined ≡ None) (w : is_word (argument_value s t) ≡ true) {r : ℕ} (f : Found s c x t.at t.end r) where
+  module _ (z : t.joined ≡ None) (w : is_word (argument_value s t) ≡ true) {r : ℕ} (f : Found s c x (part s t.at t.end) r) where
     pub parameter-answer : r < (count_in x) → (count_in x) < 65536 → Judged s c x t (record { given = Parameter r; joins = true })
     unfolding given_of given_as
     parameter-answer h few =
@@ -221,7 +218,7 @@ module _ {s m c : List ℕ} {x : Scope} {n u : ℕ} (q : Reading s m c x n u) wh
               ∙ ap (λ (y : List ℕ). lower f (fault_of y)) (one b (r ∙ ap (λ (ps : List (List ℕ)). not (is_argument ps (argument_value s t))) same-parameters))
               ∙ g.faults;
           ends = sym (ends_on e) ∙ g.ends;
-          rest = sym (behind-on e.inner) ∙ g.rest;
+          rest = sym (rest-on e.inner) ∙ g.rest;
         }
       where
         one : (b : Bool) → b ≡ not (is_argument (parameters_of s c x) (argument_value s t))

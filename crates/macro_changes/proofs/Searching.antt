@@ -69,13 +69,13 @@ none_more p i h e j l = go (dec_lt j i)
     go (no m) = let q : j ≡ i = omega arith in ap p q ∙ e
 
 -- among a body's parameters; the section has none
-module _ {s c : List ℕ} {x : Scope} {at end : ℕ} where
-  pub none-found : x ≡ None → Found s c x at end (count_in x)
+module _ {s c : List ℕ} {x : Scope} {w : List ℕ} where
+  pub none-found : x ≡ None → Found s c x w (count_in x)
   unfolding tab
-  none-found e = subst (λ (y : Scope). Found s c y at end (count_in y)) (sym e) (record { most = omega arith; is = refl })
+  none-found e = subst (λ (y : Scope). Found s c y w (count_in y)) (sym e) (record { most = omega arith; is = refl })
 
-  pub found-by : {p : Parameters} {r : ℕ} → x ≡ Some p → Found s c (Some p) at end r → Found s c x at end r
-  found-by {p} {r} e h = subst (λ (y : Scope). Found s c y at end r) (sym e) h
+  pub found-by : {p : Parameters} {r : ℕ} → x ≡ Some p → Found s c (Some p) w r → Found s c x w r
+  found-by {p} {r} e h = subst (λ (y : Scope). Found s c y w r) (sym e) h
 
-  pub none-by : {p : Parameters} → x ≡ Some p → Found s c (Some p) at end p.count → Found s c x at end (count_in x)
-  none-by {p} e h = subst (λ (y : Scope). Found s c y at end (count_in y)) (sym e) h
+  pub none-by : {p : Parameters} → x ≡ Some p → Found s c (Some p) w p.count → Found s c x w (count_in x)
+  none-by {p} e h = subst (λ (y : Scope). Found s c y w (count_in y)) (sym e) h

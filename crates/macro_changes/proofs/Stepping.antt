@@ -40,7 +40,7 @@ use Rattle.macro_changes.specs.Changing.{Scope}
 use Rattle.macro_changes.specs.declared.Step.{Step}
 use Rattle.macro_changes.proofs.Cells.{kept-none, kept_on, kept-below, parameters-same, changes-same, changes-more, behind_more}
 use Rattle.macro_changes.proofs.Searching.{from_on, from-off}
-use Rattle.macro_changes.proofs.Giving.{lower-assoc, keep-first, one-fault, first_forward, inside_on, behind-on}
+use Rattle.macro_changes.proofs.Giving.{lower-assoc, keep-first, one-fault, first_forward, stretch-on, rest-on}
 use Rattle.macro_changes.proofs.Calling.{call_faults-are}
 use Rattle.macro_changes.proofs.Called.{cells, cells-kept, value_is, value-size, call-change}
 
@@ -244,13 +244,13 @@ module _ {s c d : List ℕ} {x : Scope} {u : ℕ} {t : Element} (q : Started s c
       forward = first_forward k.first
 
       call_stop-same : stop_of s (is_some x) r.passed.next ≡ stop_of s (is_some x) n
-      call_stop-same = ap (λ (ts : List spec.Element). if_any (length s) (λ y. y.at) ts) (g.gives.rest ∙ sym (behind-on k))
+      call_stop-same = ap (λ (ts : List spec.Element). if_any (length s) (λ y. y.at) ts) (g.gives.rest ∙ sym (rest-on k))
 
       the-stop : b.stop ≡ call_stop (stop_of s (is_some x) n) (ends_from s (is_some x) t.next)
       the-stop = en.stop_is ∙ (λ i. call_stop (call_stop-same i) (g.gives.ends i))
 
       inner : inside s (is_some x) n ≡ v ∷ inside s (is_some x) t.next
-      inner = inside_on k
+      inner = stretch-on k
 
       after : inside s (is_some x) b.next ≡ drop 1 (ends_from s (is_some x) t.next)
       after = en.on ∙ ap (drop 1) g.gives.ends
@@ -286,7 +286,7 @@ module _ {s c d : List ℕ} {x : Scope} {u : ℕ} {t : Element} (q : Started s c
                       ∙ sym (of-star closing ps stop v (inside s closing t.next) none-there star (star-sort v star))
                       ∙ ap (changes_of closing ps stop) (sym inner);
                   used_is = used-there;
-                  rest = en.rest ∙ g.gives.rest ∙ sym (behind-on k);
+                  rest = en.rest ∙ g.gives.rest ∙ sym (rest-on k);
                 };
             more = omega (arith, forward, g.gives.from, en.from);
           }
@@ -338,7 +338,7 @@ module _ {s c : List ℕ} {x : Scope} {u : ℕ} {t : Element} (q : Started s c x
     word-forward = first_forward k.first
 
     word-inner : inside s (is_some x) n ≡ v' ∷ inside s (is_some x) t.next
-    word-inner = inside_on k
+    word-inner = stretch-on k
 
     word-faults : (b : Bool) → b ≡ wrong_by (is_some x) a.joins v' → {f : Fault} → f ≡ then_some b t.at
         → lower f (fault_of (form_in s ps' (is_some x) t.next)) ≡ fault_of (form_in s ps' (is_some x) n)
@@ -372,7 +372,7 @@ module _ {s c : List ℕ} {x : Scope} {u : ℕ} {t : Element} (q : Started s c x
                     ∙ sym (of_plain closing ps' (stop_of s closing n) v' (inside s closing t.next) no-star)
                     ∙ ap (changes_of closing ps' (stop_of s closing n)) (sym word-inner);
                 used_is = b;
-                rest = sym (behind-on k);
+                rest = sym (rest-on k);
               };
           more = word-forward;
         }

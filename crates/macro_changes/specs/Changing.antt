@@ -1,6 +1,5 @@
 -- The changes of a body or of the section in cells: what the functions that read them promise.
 use Rattle.std.specs.Prelude.{◌≡◌, Bool, true, false, cond, not, ◌&&◌, ◌||◌, List, [], ◌++◌, map, ℕ, ◌+◌, ◌*◌, ◌-◌, ◌≤◌, ◌<◌, length, get_or, set, drop}
-use Rattle.language.specs.Limits as limit
 use Rattle.layout.specs.Cells.{tab}
 use Rattle.lexer.specs.Tokens.{part}
 use Rattle.lists.specs.Lists.{if_any, keep}
@@ -19,7 +18,7 @@ use Rattle.macro_code.specs.Kinds.{parameter_of}
 use Rattle.macro_code.specs.Places as place
 use Rattle.macro_code.specs.declared.Given as held
 use Rattle.macro_code.specs.declared.Given.TheVariants.{Typed, Parameter, Joined}
-use Rattle.macro_elements.specs.ElementAt.{elements_from, argument_value, Lent, Held, FirstElement}
+use Rattle.macro_elements.specs.ElementAt.{elements_from, argument_value, Lent, Held, FirstBefore}
 use Rattle.macro_elements.specs.declared.Element.{Element}
 use Rattle.macro_changes.specs.declared.Answer.{Answer}
 use Rattle.macro_changes.specs.declared.Ending.{Ending}
@@ -84,15 +83,9 @@ kind_in (Joined k) = place.joined_kind
 abbrev pub number_in : held.Given → ℕ
 number_in g = unwrap_or (parameter_of g) 0
 
-pub record Findable (s c : List ℕ) (x : Scope) (at end : ℕ) : Type 0 where
-  pub own : at ≤ end
-  pub ends : end ≤ length s
-  pub small : length s ≤ limit.text
-  pub scoped : (first_in x) + (count_in x) ≤ length c
-
-pub record Found (s c : List ℕ) (x : Scope) (at end r : ℕ) : Type 0 where
+pub record Found (s c : List ℕ) (x : Scope) (w : List ℕ) (r : ℕ) : Type 0 where
   pub most : r ≤ (count_in x)
-  pub is : r ≡ number_of (parameters_of s c x) (part s at end)
+  pub is : r ≡ number_of (parameters_of s c x) w
 
 pub record Judging (s c : List ℕ) (x : Scope) (t : Element) : Type 0 where
   pub held : Held s t
@@ -113,13 +106,8 @@ pub record Reading (s m c : List ℕ) (x : Scope) (n u : ℕ) : Type 0 where
   pub wide : length c ≤ 131072
 
 -- t is the first element inside
-pub record InsideAt (s : List ℕ) (closing : Bool) (n : ℕ) (t : Element) : Type 0 where
-  pub first : FirstElement s n t
-  pub inner : shuts closing (argument_value s t) ≡ false
-
-pub record NextInside (s : List ℕ) (closing : Bool) (n : ℕ) (r : Option Element) : Type 0 where
-  pub none : r ≡ None → inside s closing n ≡ []
-  pub some : (t : Element) → r ≡ Some t → InsideAt s closing n t
+abbrev pub InsideAt : List ℕ → Bool → ℕ → Element → Type 0
+InsideAt s closing n t = FirstBefore (shuts closing) s n t
 
 -- what is passed: nothing yet, an element more, and two stretches
 abbrev pub none_passed : ℕ → Passed
@@ -138,14 +126,14 @@ given_from s closing n = until is_end (inside s closing n)
 abbrev pub ends_from : List ℕ → Bool → ℕ → List spec.Element
 ends_from s closing n = from is_end (inside s closing n)
 
+-- both ends by one test
+abbrev pub ends_given : Bool → spec.Element → Bool
+ends_given closing t = shuts closing t || is_end t
+
 -- t is the first that a call gives
 pub record GivenAt (s : List ℕ) (closing : Bool) (n : ℕ) (t : Element) : Type 0 where
   pub inner : InsideAt s closing n t
   pub plain : is_end (argument_value s t) ≡ false
-
-pub record NextGiven (s : List ℕ) (closing : Bool) (n : ℕ) (r : Option Element) : Type 0 where
-  pub none : r ≡ None → given_from s closing n ≡ []
-  pub some : (t : Element) → r ≡ Some t → GivenAt s closing n t
 
 abbrev pub argument_faults : List (List ℕ) → List spec.Element → List ℕ
 argument_faults ps ts = places_in (keep (λ t. not (is_argument ps t)) ts)

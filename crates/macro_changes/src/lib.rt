@@ -2,21 +2,23 @@
 #![tactic(auto)]
 
 ghost use Rattle.std.specs.Option.{is_some};
-ghost use Rattle.std.specs.Prelude.{◌≡◌, ◌&&◌, ◌||◌, ◌+◌, List, ℕ, ◌<◌, length, set, unwrap_or, IfSome};
+ghost use Rattle.std.specs.Prelude.{◌≡◌, ◌&&◌, ◌||◌, ◌+◌, [], ◌≤◌, ◌<◌, length, set, unwrap_or, IfSome};
 ghost use Rattle.lists.specs.Lists.{bytes_equal};
 ghost use Rattle.macros.specs.Elements.{is_text, is_listed};
 ghost use Rattle.macro_code.specs.Code.{paired, bytes_at};
 ghost use Rattle.macro_code.specs.Places.{half, kind_cell};
 ghost use Rattle.macro_elements.specs.ElementAt.{argument_value, Lent, Held};
-ghost use Rattle.macro_changes.specs.Changing.{count_in, shuts, wrong_by, kind_in, number_in, value_in, none_passed, passed_over, passed_both, replaced, NextInside, NextGiven, Named, EndsHere, Writing, Written, Findable, Found, Judging, Judged, Reading, GivenUp, ChangedBy, NextChange, ReadChanges, Starred, Worded};
+ghost use Rattle.macro_changes.specs.Changing.{first_in, count_in, shuts, ends_given, wrong_by, kind_in, number_in, value_in, none_passed, passed_over, passed_both, replaced, Named, EndsHere, Writing, Written, Found, Judging, Judged, Reading, GivenUp, ChangedBy, NextChange, ReadChanges, Starred, Worded};
 
 use macro_code::{CodePlaces, Coded, Given, pair};
-use macro_elements::{Element, Source, is_identifier, is_listed, is_mark, next_element};
+use macro_elements::{
+    Element, Source, is_identifier, is_listed, is_mark, next_before, next_element,
+};
 use scanner::Sort;
 use statements::{Fault, lower};
 
 // A body's parameters: their first cell and their count.
-#[derive(Clone, Copy)]
+#[derive(Clone, Copy, Debug, PartialEq, Eq)]
 pub struct Parameters {
     pub first: usize,
     pub count: usize,
@@ -33,7 +35,7 @@ fn count_in(x: Scope) -> usize
 }
 
 // What is passed of a text: the place behind it, and the lowest place at fault.
-#[derive(Clone, Copy)]
+#[derive(Clone, Copy, Debug, PartialEq, Eq)]
 pub struct Passed {
     pub next: usize,
     pub fault: Fault,
@@ -73,7 +75,7 @@ impl Passed {
 
 // What was read: what is passed, the cell behind it, and the count of changes or arguments.
 // The place and the cell go in as two numbers: a type for the two would be taken apart at each step.
-#[derive(Clone, Copy)]
+#[derive(Clone, Copy, Debug, PartialEq, Eq)]
 pub struct Step {
     pub passed: Passed,
     pub used: usize,
@@ -81,7 +83,7 @@ pub struct Step {
 }
 
 // What an element is as a name or an argument, and whether what is joined to it may be: what it is does not tell that.
-#[derive(Clone, Copy)]
+#[derive(Clone, Copy, Debug, PartialEq, Eq)]
 struct Answer {
     given: Given,
     joins: bool,
@@ -125,19 +127,16 @@ fn put_given(code: &mut [u32], u: usize, at: usize, size: usize, given: Given)
 fn is_name(text: &[u8], code: &[u32], i: usize, name: &[u8]) -> bool
     ensures { result ≡ bytes_equal name.now (bytes_at text.now code.now i) }
 {
-    let coded = Coded { text, code };
-    name == coded.bytes_at(i)
+    name == Coded { text, code }.bytes_at(i)
 }
 
 // The number of the parameter with these bytes.
-// The ends are those of an element or of what is joined to it, so they come one by one.
-fn find_parameter(text: &[u8], code: &[u32], x: Scope, at: usize, end: usize) -> Option<usize>
-    requires { Findable text.now code.now x at end }
-    ensures found { Found text.now code.now x at end (unwrap_or result (count_in x)) }
+fn find_parameter(text: &[u8], code: &[u32], x: Scope, name: &[u8]) -> Option<usize>
+    requires { first_in x + count_in x ≤ length code.now }
+    ensures found { Found text.now code.now x name.now (unwrap_or result (count_in x)) }
     ensures listed { IfSome result (λ k. k < count_in x) }
 {
     let p = x?;
-    let name = &text[at..end];
     for i in 0..p.count {
         if is_name(text, code, p.first + i, name) {
             return Some(i);
@@ -157,7 +156,7 @@ fn answer_of(text: &[u8], code: &[u32], x: Scope, t: Element) -> Answer
     ensures { Judged text.now code.now x t result }
 {
     if let Some(behind) = t.joined {
-        let k = find_parameter(text, code, x, t.end + 1, behind);
+        let k = find_parameter(text, code, x, &text[t.end + 1..behind]);
         return Answer {
             given: Given::Joined(k.unwrap_or(count_in(x))),
             joins: is_identifier(text, t) & k.is_some(),
@@ -166,7 +165,7 @@ fn answer_of(text: &[u8], code: &[u32], x: Scope, t: Element) -> Answer
     if !t.is(Sort::Word) {
         return TYPED;
     }
-    match find_parameter(text, code, x, t.at, t.end) {
+    match find_parameter(text, code, x, &text[t.at..t.end]) {
         Some(k) => Answer {
             given: Given::Parameter(k),
             joins: true,
@@ -185,33 +184,16 @@ fn is_argument(text: &[u8], t: Element, joins: bool) -> bool
 
 // Whether an element closes the body.
 fn closes(x: Scope, t: Element) -> bool
-    ensures { (s : List ℕ) → result ≡ shuts (is_some x) (argument_value s t) }
+    ensures { result ≡ shuts (is_some x) (argument_value [] t) }
 {
     x.is_some() && is_mark(b')', t)
 }
 
-// The next element of a body or the section from place `n` on: none at a body's bracket.
-fn next_inside(source: &Source, x: Scope, n: usize) -> Option<Element>
-    requires { Lent source.now.text.now source.now.marked.now n }
-    ensures { NextInside source.now.text.now (is_some x) n result }
+// Whether what a call gives ends at an element.
+fn ends_given(x: Scope, t: Element) -> bool
+    ensures { result ≡ ends_given (is_some x) (argument_value [] t) }
 {
-    let t = next_element(source, n)?;
-    if closes(x, t) {
-        return None;
-    }
-    Some(t)
-}
-
-// The same of what a call gives: none at its end.
-fn next_given(source: &Source, x: Scope, n: usize) -> Option<Element>
-    requires { Lent source.now.text.now source.now.marked.now n }
-    ensures { NextGiven source.now.text.now (is_some x) n result }
-{
-    let t = next_inside(source, x, n)?;
-    if t.is(Sort::End) {
-        return None;
-    }
-    Some(t)
+    closes(x, t) | t.is(Sort::End)
 }
 
 // All that follows a star up to the call's end.
@@ -221,10 +203,15 @@ fn read_given(source: &Source, code: &mut [u32], x: Scope, n: usize, u: usize) -
 {
     let mut passed = Passed::nothing(n);
     let mut k: usize = 0;
-    while let Some(t) = next_given(source, x, passed.next) {
-        let w = u + CodePlaces::GIVEN_SIZE * k;
+    while let Some(t) = next_before(source, passed.next, |t| ends_given(x, t)) {
         let a = answer_of(source.text, code, x, t);
-        put_given(code, w, t.at, t.end - t.at, a.given);
+        put_given(
+            code,
+            u + CodePlaces::GIVEN_SIZE * k,
+            t.at,
+            t.end - t.at,
+            a.given,
+        );
         passed = passed.over(t, !is_argument(source.text, t, a.joins));
         k += 1;
     }
@@ -239,7 +226,7 @@ fn name_fault(source: &Source, x: Scope, star: usize, n: usize) -> Fault
     requires { Lent source.now.text.now source.now.marked.now n }
     ensures { Named source.now.text.now (is_some x) star n result }
 {
-    let Some(t) = next_given(source, x, n) else {
+    let Some(t) = next_before(source, n, |t| ends_given(x, t)) else {
         return Some(star);
     };
     let named = is_identifier(source.text, t) & t.joined.is_none();
@@ -247,7 +234,7 @@ fn name_fault(source: &Source, x: Scope, star: usize, n: usize) -> Fault
 }
 
 // Where a call ends, and the place behind it.
-#[derive(Clone, Copy)]
+#[derive(Clone, Copy, Debug, PartialEq, Eq)]
 struct Ending {
     stop: usize,
     next: usize,
@@ -309,12 +296,11 @@ fn read_call(source: &Source, code: &mut [u32], x: Scope, star: Element, u: usiz
     let fault = lower(name, r.passed.fault);
     let e = end_of_call(source, r.passed.next);
     let used = write_call(code, u, star.at, e.stop, r.count, fault);
-    let passed = Passed {
-        next: e.next,
-        fault,
-    };
     Step {
-        passed,
+        passed: Passed {
+            next: e.next,
+            fault,
+        },
         used,
         count: 1,
     }
@@ -378,7 +364,7 @@ fn read_change(source: &Source, code: &mut [u32], x: Scope, n: usize, u: usize) 
     requires { Reading source.now.text.now source.now.marked.now code.old x n u }
     ensures { NextChange source.now.text.now code.old code.new x n u result }
 {
-    let t = next_inside(source, x, n)?;
+    let t = next_before(source, n, |t| closes(x, t))?;
     if is_mark(b'*', t) {
         return Some(read_call(source, code, x, t, u));
     }

@@ -3,3 +3,5 @@ pub mod Code
 pub mod Known
 pub mod Bounds
 pub mod Kinds
+pub mod Changes
+pub mod ChangeLaws

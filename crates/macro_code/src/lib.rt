@@ -1,14 +1,22 @@
 // The list of macros and the section of a text, in cells of two numbers each.
 #![tactic(auto)]
 
-ghost use Rattle.std.specs.Prelude.{◌≡◌, ◌+◌, ◌<◌, get_or, take, drop};
-ghost use Rattle.macro_code.specs.Bounds.{far};
-ghost use Rattle.macro_code.specs.Code.{high, low, paired, bytes_at};
+ghost use Rattle.std.specs.Prelude.{◌≡◌, ◌+◌, ◌≤◌, ◌<◌, take, drop};
+ghost use Rattle.macro_code.specs.Bounds.{near, far, widest};
+ghost use Rattle.macro_code.specs.Changes.{StartsAt};
+ghost use Rattle.macro_code.specs.Code.{high, low, paired, bytes_at, size_at};
 ghost use Rattle.macro_code.specs.Kinds.{GivenAt, ChangeAt, parameter_of};
 ghost use Rattle.macro_code.specs.Places.{half, all_places};
 
+mod changes;
+
+pub use changes::Changes;
+
+// "From level 1 to 16 at most".
+pub const LEVELS: usize = 16;
+
 // What a name or an argument is: as typed; or a parameter, by its number; or what is typed joined with a parameter.
-#[derive(Clone, Copy)]
+#[derive(Clone, Copy, Debug, PartialEq, Eq)]
 pub enum Given {
     Typed,
     Parameter(usize),
@@ -29,7 +37,7 @@ impl Given {
 }
 
 // What a change is: the value of a parameter, by its number; or a call with so many arguments; or nothing, where a call is ill formed.
-#[derive(Clone, Copy)]
+#[derive(Clone, Copy, Debug, PartialEq, Eq)]
 pub enum Change {
     Value(usize),
     Call(usize),
@@ -37,7 +45,7 @@ pub enum Change {
 }
 
 // The cells are lent memory, so a value of this type holds nothing, and kinds are numbers there; its constants are places of cells, as in specs/Places.antt.
-#[derive(Clone, Copy)]
+#[derive(Clone, Copy, Debug, PartialEq, Eq)]
 pub struct CodePlaces {}
 
 impl CodePlaces {
@@ -76,25 +84,6 @@ impl CodePlaces {
     pub const MACROS: usize = 10923;
 }
 
-fn cell(code: &[u32], i: usize) -> u32
-    ensures { result ≡ get_or code.now i 0 }
-{
-    code.get(i).copied().unwrap_or(0)
-}
-
-// The two numbers of a cell, by a cast, since there is no From<u32> for usize; both are 0 past the end.
-fn high(code: &[u32], i: usize) -> usize
-    ensures { (result ≡ high code.now i) × (result < half) }
-{
-    (cell(code, i) / CodePlaces::HALF) as usize
-}
-
-fn low(code: &[u32], i: usize) -> usize
-    ensures { (result ≡ low code.now i) × (result < half) }
-{
-    (cell(code, i) % CodePlaces::HALF) as usize
-}
-
 // The cell of two numbers; a type for the two would be taken apart at each use.
 pub fn pair(a: usize, b: usize) -> u32
     requires { (a < half) × (b < half) }
@@ -114,24 +103,24 @@ pub fn part(text: &[u8], at: usize, n: usize) -> &[u8]
 }
 
 // A text, and the cells of its list of macros and its section.
-#[derive(Clone, Copy)]
+#[derive(Clone, Copy, Debug, PartialEq, Eq)]
 pub struct Coded<'a> {
     pub text: &'a [u8],
     pub code: &'a [u32],
 }
 
 impl<'a> Coded<'a> {
-    // The two numbers of the cell `i`.
+    // The two numbers of the cell `i`, by a cast, since there is no From<u32> for usize; both are 0 past the end.
     pub fn high(&self, i: usize) -> usize
         ensures { (result ≡ high self.now.code.now i) × (result < half) }
     {
-        high(self.code, i)
+        (self.code.get(i).copied().unwrap_or(0) / CodePlaces::HALF) as usize
     }
 
     pub fn low(&self, i: usize) -> usize
         ensures { (result ≡ low self.now.code.now i) × (result < half) }
     {
-        low(self.code, i)
+        (self.code.get(i).copied().unwrap_or(0) % CodePlaces::HALF) as usize
     }
 
     // The bytes of the cell `i`.
@@ -165,6 +154,30 @@ impl<'a> Coded<'a> {
             CodePlaces::VALUE => Change::Value(k),
             CodePlaces::CALL => Change::Call(k),
             _ => Change::Nothing,
+        }
+    }
+
+    // How many cells a change takes.
+    #[tactic(auto, unfolding(crate::specs::Code::size_at))]
+    pub(crate) fn change_size(&self, i: usize) -> usize
+        requires { i < far }
+        ensures { (result ≡ size_at self.now.code.now i) × (result ≤ widest) }
+    {
+        match self.change_at(i) {
+            Change::Call(n) => CodePlaces::ARGUMENTS + CodePlaces::GIVEN_SIZE * n,
+            Change::Value(_) | Change::Nothing => CodePlaces::SMALL_SIZE,
+        }
+    }
+
+    // The changes of a macro or of the section, by its cell.
+    pub fn changes(&self, q: usize) -> Changes<'a>
+        requires { q < near }
+        ensures { StartsAt self.now.code.now q result }
+    {
+        Changes {
+            coded: *self,
+            cell: q + CodePlaces::PARAMETERS + self.high(q + CodePlaces::COUNTS),
+            left: self.low(q + CodePlaces::COUNTS),
         }
     }
 }

@@ -1,5 +1,5 @@
 -- Elements as the code tells them, with places of the text s in place of bytes; and what its functions promise.
-use Rattle.std.specs.Prelude.{Option, Some, None, IfSome, ◌≡◌, false, List, [], ◌∷◌, map, ℕ, ◌+◌, ◌≤◌, ◌<◌, length, get_or, take, drop}
+use Rattle.std.specs.Prelude.{Option, Some, None, IfSome, ◌≡◌, Bool, false, List, [], ◌∷◌, map, ℕ, ◌+◌, ◌≤◌, ◌<◌, length, get_or, take, drop}
 use Rattle.language.specs.Limits as limit
 use Rattle.lexer.specs.Tokens.{part}
 use Rattle.scanner.specs.declared.Sort.{Sort}
@@ -67,6 +67,16 @@ pub record FirstElement (s : List ℕ) (n : ℕ) (t : Element) : Type 0 where
   pub held : Held s t
   pub more : t.at < t.next
   pub is : elements_from s n ≡ argument_value s t ∷ elements_from s t.next
+
+-- the first element from place n on, and one before the first that passes the test
+pub record FirstBefore (p : spec.Element → Bool) (s : List ℕ) (n : ℕ) (t : Element) : Type 0 where
+  pub first : FirstElement s n t
+  pub fails : p (argument_value s t) ≡ false
+
+-- there is none before the first that passes the test, or it is found
+pub record NextBefore (p : spec.Element → Bool) (s : List ℕ) (n : ℕ) (r : Option Element) : Type 0 where
+  pub none : r ≡ None → spec.until p (elements_from s n) ≡ []
+  pub some : (t : Element) → r ≡ Some t → FirstBefore p s n t
 
 -- one step from element to element: there is none, or the first is found
 pub record NextElement (s : List ℕ) (n : ℕ) (r : Option Element) : Type 0 where

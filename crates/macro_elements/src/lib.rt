@@ -1,17 +1,19 @@
 // From a place in a text to the element that stands there and the place behind it.
 #![tactic(auto)]
 
-ghost use Rattle.std.specs.Prelude.{◌≡◌, List, ℕ, Some, ◌<◌, length, get_or, unwrap_or, IfSome};
+ghost use Rattle.std.specs.Prelude.{◌≡◌, Bool, List, ℕ, Some, ◌<◌, length, unwrap_or, IfSome};
 ghost use Rattle.characters.specs.Characters.{is_digit};
 ghost use Rattle.language.specs.Values.{unsigned, numeral};
 ghost use Rattle.lexer.specs.Tokens.{part};
 ghost use Rattle.lists.specs.Lists.{all};
+ghost use Rattle.macros.specs.Elements as spec;
 ghost use Rattle.macros.specs.Elements.{is_mark, is_identifier, is_listed};
 ghost use Rattle.scanner.specs.Sorts.{sort_in};
 ghost use Rattle.syntax.specs.Items.{same_sort};
-ghost use Rattle.macro_elements.specs.ElementAt.{alone, argument_value, Lent, JoinedEnd, TextEnd, NextElement, Held};
+ghost use Rattle.macro_elements.specs.ElementAt.{alone, argument_value, Lent, JoinedEnd, TextEnd, NextElement, NextBefore, Held};
 
 use lexer::item_at;
+use macro_marks::byte_at;
 use scanner::{Sort, scan_text, word_end};
 
 // A text, and its copy with a star for each joining apostrophe.
@@ -42,13 +44,6 @@ impl Element {
     }
 }
 
-// The byte at a place, or a new line past the end; one line, as in the other crate that reads marked texts.
-fn byte_at(text: &[u8], i: usize) -> u8
-    ensures { result ≡ get_or text.now i 10 }
-{
-    text.get(i).copied().unwrap_or(b'\n')
-}
-
 // The place behind the parameter that an apostrophe at `end` joins.
 fn joined_end(source: &Source, end: usize) -> Option<usize>
     requires { Lent source.now.text.now source.now.marked.now end }
@@ -67,8 +62,7 @@ fn text_end(text: &[u8], at: usize) -> usize
     requires { at < length text.now }
     ensures { TextEnd text.now at result }
 {
-    let x = scan_text(text, at + 1);
-    (x.end + 1).min(text.len())
+    (scan_text(text, at + 1).end + 1).min(text.len())
 }
 
 // An element that nothing is joined to.
@@ -108,6 +102,17 @@ pub fn next_element(source: &Source, n: usize) -> Option<Element>
         Sort::Text => alone(sort, byte, t.at, text_end(source.text, t.at), t.next),
         Sort::Colon | Sort::End | Sort::Wrong => alone(sort, byte, t.at, t.at, t.next),
     })
+}
+
+// The next element from place `n` on: none where that one passes the test.
+pub fn next_before<F: Fn(Element) -> bool>(source: &Source, n: usize, ends: F) -> Option<Element>
+    ghost test: { spec.Element → Bool }
+    requires lent { Lent source.now.text.now source.now.marked.now n }
+    requires callable { F.IsAlwaysCallable ends }
+    requires tells { (t : Element) (b : Bool) → F.post ends t b → b ≡ test (argument_value source.now.text.now t) }
+    ensures { NextBefore test source.now.text.now n result }
+{
+    next_element(source, n).filter(|t| !ends(*t))
 }
 
 // Whether an element is this star, bracket or joining apostrophe.

@@ -7,7 +7,7 @@ use native.Mathlib.Omega.{arith}
 use Rattle.std.proofs.Math.ListN.{get_or}
 use Rattle.std.proofs.lemmas.List.{take-set-le}
 use Rattle.macros.specs.Expansion.{Writing, just, followed_by, filled_in, expand, levels}
-use Rattle.macro_code.specs.Code.{high, low, size_at, call_in, body_in, macros_in, arguments_in, first_change, change_count}
+use Rattle.macro_code.specs.Code.{high, low, call_in, body_in, macros_in, arguments_in, first_change, change_count}
 use Rattle.macro_code.specs.Places as place
 use Rattle.macro_memory.specs.Memory.{entered_writes, Remembers, Stored}
 use Rattle.macro_memory.specs.MemoryLaws.{absorbed-after}
@@ -16,7 +16,7 @@ use Rattle.macro_memory.specs.declared.Slot.{Slot}
 use Rattle.macro_values.specs.declared.Written.{Written}
 use Rattle.macro_values.specs.WritingLaws.{wrote-both}
 use Rattle.macro_values.specs.Wrote.{is_over, size_of, Wrote}
-use Rattle.macro_expansion.specs.declared.Level.{Level}
+use Rattle.macro_memory.specs.declared.Level.{Level}
 use Rattle.macro_expansion.specs.declared.Rest.{Rest}
 use Rattle.macro_expansion.specs.declared.Pause.{Pause}
 use Rattle.macro_expansion.specs.declared.Paused.{Paused}
@@ -30,18 +30,18 @@ unfolding body_in
 body-rest s c f n calls left m = ap (λ g. g (arguments_at s c calls left) (body_in s c m)) (expand-walks (macros_in s c f n) left)
 
 pub run-whole : (s c f : List ℕ) (n : ℕ) (calls : List ℕ) (at : Level) (r : Rest) (v : Written) (e : Paused) (o p : List ℕ) → Whole c at r
-    → Ran s c f n calls r.left r.stop r.changes (rest_writes s c f n calls r.left r.place r.stop r.cell r.changes) v e o p
+    → Ran s c f n calls r.left r.stop r.changes.left (rest_writes s c f n calls r.left r.place r.stop r.changes.cell r.changes.left) v e o p
     → Ran s c f n calls at.left (low c (at.cell + place.span_cell)) (change_count c at.cell)
     (expand (macros_in s c f n) at.left (arguments_at s c calls at.left) (body_in s c at.cell)) v e o p
 run-whole s c f n calls at r v e o p w h =
     rw (body-rest s c f n calls at.left at.cell)
-    (rw (w.left_is, w.stop_is, w.changes_is, w.from_is, w.cell_is) at h)
+    (rw (w.left_is, w.stop_is, w.changes_are.left_is, w.from_is, w.changes_are.cell_is) at h)
 
 pub run-behind : (s c f : List ℕ) (n : ℕ) (calls : List ℕ) (at : Level) (x : Pause) (r : Rest) (v : Written) (e : Paused) (o p : List ℕ) → Behind c at x r
-    → Ran s c f n calls r.left r.stop r.changes (rest_writes s c f n calls r.left r.place r.stop r.cell r.changes) v e o p
-    → Ran s c f n calls at.left (low c (at.cell + place.span_cell)) (x.changes - 1)
-    (rest_writes s c f n calls at.left (low c x.cell) (low c (at.cell + place.span_cell)) (x.cell + size_at c x.cell) (x.changes - 1)) v e o p
-run-behind s c f n calls at x r v e o p w h = rw (w.left_is, w.stop_is, w.changes_is, w.from_is, w.cell_is) at h
+    → Ran s c f n calls r.left r.stop r.changes.left (rest_writes s c f n calls r.left r.place r.stop r.changes.cell r.changes.left) v e o p
+    → Ran s c f n calls at.left (low c (at.cell + place.span_cell)) x.changes.left
+    (rest_writes s c f n calls at.left (low c x.cell) (low c (at.cell + place.span_cell)) x.changes.cell x.changes.left) v e o p
+run-behind s c f n calls at x r v e o p w h = rw (w.left_is, w.stop_is, w.changes_are, w.from_is) at h
 
 pub fits-rest : (s c f : List ℕ) (n : ℕ) (slots : List Slot) (at : Level) (r : Rest) (v : Written) (o : List ℕ) → r.left ≡ at.left
     → Fits s c f n at.left slots v o → Fits s c f n r.left slots v o
@@ -81,7 +81,7 @@ pause-same s c f n calls others left stop (Some x) e = rw (arguments-same s c ca
 
 pause-enters : (s c f : List ℕ) (n : ℕ) (calls : List ℕ) (left stop : ℕ) (r : Option Pause) (x : Pause) → r ≡ Some x
     → pause_writes s c f n calls left stop r
-    ≡ followed_by (entered_writes s c f n calls left x.cell x.body) (rest_writes s c f n calls left (low c x.cell) stop (x.cell + size_at c x.cell) (x.changes - 1))
+    ≡ followed_by (entered_writes s c f n calls left x.cell x.body) (rest_writes s c f n calls left (low c x.cell) stop x.changes.cell x.changes.left)
 unfolding pause_writes
 pause-enters s c f n calls left stop r x e = rw e
 
@@ -93,7 +93,7 @@ pause-over s c f n calls left stop r e = rw e
 pub expand-turn : (s c f : List ℕ) (n : ℕ) (calls₀ calls : List ℕ) (m₁ m₂ : Memory) (left stop : ℕ) (x u : Writing) (v w w' : Written) (o q p r : List ℕ) (e e' : Paused) (b : Pause)
     → 1 ≤ left → left ≤ levels → levels - left < length calls → take (levels - left) calls ≡ take (levels - left) calls₀ → m₁.calls ≡ set calls (levels - left) b.cell
     → Wrote u v w o q → x ≡ followed_by u (pause_writes s c f n calls₀ left stop e.call) → e.call ≡ Some b → Expands s c f n m₁ m₂ (left - 1) b.body w w' q p
-    → Ran s c f n m₂.calls left stop (b.changes - 1) (rest_writes s c f n m₂.calls left (low c b.cell) stop (b.cell + size_at c b.cell) (b.changes - 1)) w' e' p r
+    → Ran s c f n m₂.calls left stop b.changes.left (rest_writes s c f n m₂.calls left (low c b.cell) stop b.changes.cell b.changes.left) w' e' p r
     → (y : Writing) × Wrote y v e'.state o r × (x ≡ followed_by y (pause_writes s c f n calls₀ left stop e'.call)) × (take (levels - left) m₂.calls ≡ take (levels - left) calls₀)
 expand-turn s c f n calls₀ calls m₁ m₂ left stop x u v w w' o q p r e e' b some most room same stored wrote is enters inside run =
     let after = calls-after s c calls₀ calls m₁.calls left b.cell some most room same stored m₂.calls inside.calls_stay in
@@ -108,7 +108,7 @@ expand-turn s c f n calls₀ calls m₁ m₂ left stop x u v w w' o q p r e e' b
           ∙ ap (followed_by u)
           (pause-enters s c f n calls₀ left stop e.call b enters
           ∙ ap (followed_by E)
-          (sym (rest_same s c f n calls₀ m₂.calls left (low c b.cell) stop (b.cell + size_at c b.cell) (b.changes - 1) after)
+          (sym (rest_same s c f n calls₀ m₂.calls left (low c b.cell) stop b.changes.cell b.changes.left after)
           ∙ run.is
           ∙ ap (followed_by B) (pause-same s c f n calls₀ m₂.calls left stop e'.call after)))
           ∙ sym (followed-assoc u E (followed_by B P))

@@ -1,19 +1,19 @@
 -- A body written in parts: what a call's body writes with so many levels left, what is left of a body, and what is promised of each part.
-use Rattle.std.specs.Prelude.{Option, Some, None, is_some, ◌≡◌, Bool, true, List, [], ℕ, zero, suc, ◌+◌, ◌-◌, ◌*◌, ◌≤◌, ◌<◌, length, take}
+use Rattle.std.specs.Prelude.{Option, Some, None, is_some, ◌≡◌, Bool, true, List, [], ℕ, zero, suc, ◌+◌, ◌-◌, ◌≤◌, ◌<◌, length, take}
 use Rattle.macros.specs.Expansion.{Writing, just, too_deep, followed_by, walk, expand, levels}
 use Rattle.macros.specs.Macros.{Macro}
 use Rattle.macros.specs.Pieces.{Piece, pieces_from}
-use Rattle.macro_code.specs.Bounds.{widest}
-use Rattle.macro_code.specs.Code.{high, low, first_change, change_count, size_at, change_in, changes_in, body_in, macros_in, arguments_in}
+use Rattle.macro_code.specs.Code.{high, low, change_in, changes_in, body_in, macros_in, arguments_in}
+use Rattle.macro_code.specs.Changes.{StartsAt}
 use Rattle.macro_code.specs.Places as place
 use Rattle.statements.specs.Faults as told
 use Rattle.std.specs.Prelude.{None, Some}
-use Rattle.macro_memory.specs.Memory.{reach, entered_writes, Absorbed, Remembers}
+use Rattle.macro_memory.specs.Memory.{entered_writes, Absorbed, Remembers}
 use Rattle.macro_memory.specs.declared.Memory.{Memory}
 use Rattle.macro_memory.specs.declared.Slot.{Slot}
 use Rattle.macro_values.specs.Wrote.{size_of, Wrote}
 use Rattle.macro_values.specs.declared.Written.{Written}
-use Rattle.macro_expansion.specs.declared.Level.{Level}
+use Rattle.macro_memory.specs.declared.Level.{Level}
 use Rattle.macro_expansion.specs.declared.Step.{Step}
 use Rattle.macro_expansion.specs.declared.Rest.{Rest}
 use Rattle.macro_expansion.specs.declared.Pause.{Pause}
@@ -68,19 +68,19 @@ rest_writes s c f n calls left place stop i k =
 unfoldable pub pause_writes : List ℕ → List ℕ → List ℕ → ℕ → List ℕ → ℕ → ℕ → Option Pause → Writing
 pause_writes s c f n calls left stop None = just []
 pause_writes s c f n calls left stop (Some x) =
-    followed_by (entered_writes s c f n calls left x.cell x.body) (rest_writes s c f n calls left (low c x.cell) stop (x.cell + size_at c x.cell) (x.changes - 1))
+    followed_by (entered_writes s c f n calls left x.cell x.body) (rest_writes s c f n calls left (low c x.cell) stop x.changes.cell x.changes.left)
 
+-- the changes from the call on
 abbrev pub changes_left : Option Pause → ℕ
 changes_left None = 0
-changes_left (Some x) = x.changes
+changes_left (Some x) = suc x.changes.left
 
 -- where it pauses
-pub record Stops (cells left : ℕ) (x : Pause) : Type 0 where
+pub record Stops (c : List ℕ) (left : ℕ) (x : Pause) : Type 0 where
   pub deeper : 1 ≤ left
-  pub there : x.cell + 1 < cells
+  pub there : x.cell + 1 < length c
   pub body : x.body < place.half
-  pub some : 1 ≤ x.changes
-  pub few : x.changes < place.half
+  pub code : x.changes.coded.code.now ≡ c
 
 -- the rest of a body, written up to a pause
 pub record Ran (s c f : List ℕ) (n : ℕ) (calls : List ℕ) (left stop k : ℕ) (w : Writing) (v : Written) (r : Paused) (o p : List ℕ) : Type 0 where
@@ -88,30 +88,27 @@ pub record Ran (s c f : List ℕ) (n : ℕ) (calls : List ℕ) (left stop k : �
   pub wrote : Wrote behind v r.state o p
   pub is : w ≡ followed_by behind (pause_writes s c f n calls left stop r.call)
   pub fewer : changes_left r.call ≤ k
-  pub enters : (x : Pause) → r.call ≡ Some x → Stops (length c) left x
+  pub enters : (x : Pause) → r.call ≡ Some x → Stops c left x
 
--- the rest of a body, whose cells are not too far
-pub record Near (r : Rest) : Type 0 where
+-- the rest of a body in the cells c
+pub record Near (c : List ℕ) (r : Rest) : Type 0 where
   pub from : r.place < place.half
   pub stop : r.stop < place.half
-  pub cells : r.cell + widest * r.changes < reach
-  pub changes : r.changes < place.half
+  pub code : r.changes.coded.code.now ≡ c
 
 pub record Whole (c : List ℕ) (at : Level) (r : Rest) : Type 0 where
   pub from_is : r.place ≡ high c (at.cell + place.span_cell)
   pub stop_is : r.stop ≡ low c (at.cell + place.span_cell)
-  pub cell_is : r.cell ≡ first_change c at.cell
-  pub changes_is : r.changes ≡ change_count c at.cell
+  pub changes_are : StartsAt c at.cell r.changes
   pub left_is : r.left ≡ at.left
-  pub near : Near r
+  pub near : Near c r
 
 pub record Behind (c : List ℕ) (at : Level) (e : Pause) (r : Rest) : Type 0 where
   pub from_is : r.place ≡ low c e.cell
   pub stop_is : r.stop ≡ low c (at.cell + place.span_cell)
-  pub cell_is : r.cell ≡ e.cell + size_at c e.cell
-  pub changes_is : r.changes ≡ e.changes - 1
+  pub changes_are : r.changes ≡ e.changes
   pub left_is : r.left ≡ at.left
-  pub near : Near r
+  pub near : Near c r
 
 -- with so many levels left, in rows that can hold it
 pub record Fits (s c f : List ℕ) (n : ℕ) (left : ℕ) (slots : List Slot) (v : Written) (o : List ℕ) : Type 0 where
@@ -120,7 +117,7 @@ pub record Fits (s c f : List ℕ) (n : ℕ) (left : ℕ) (slots : List Slot) (v
   pub remembers : Remembers s c f n slots v
 
 abbrev pub FitsList : Macros → ℕ → List Slot → Written → List ℕ → Type 0
-FitsList l left slots v o = Fits l.listed.coded.text.now l.listed.coded.code.now l.listed.firsts.now l.listed.count left slots v o
+FitsList l left slots v o = Fits l.listed.coded.text.now l.listed.coded.code.now l.listed.firsts.now (length l.listed.firsts.now) left slots v o
 
 pub record Expands (s c f : List ℕ) (n : ℕ) (before after : Memory) (left m : ℕ) (v r : Written) (o p : List ℕ) : Type 0 where
   pub wrote : Wrote (expand (macros_in s c f n) left (arguments_at s c before.calls left) (body_in s c m)) v r o p

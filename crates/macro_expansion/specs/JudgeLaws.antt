@@ -1,6 +1,6 @@
 -- A call by what is found of it.
-use Rattle.std.specs.Prelude.{Some, None, ◌≡◌, refl, Bool, true, ◌&&◌, List, [], ◌∷◌, map, ℕ, zero, suc, ◌+◌, ◌-◌, ◌≤◌, ◌<◌, eqb, leb, length, get_or, drop}
-use Rattle.std.proofs.Common.{sym, ap, ◌∙◌, true≢false, arith, leb-true, get_or-drop}
+use Rattle.std.specs.Prelude.{Some, None, ◌≡◌, refl, Bool, true, ◌&&◌, List, [], ◌∷◌, map, ℕ, zero, suc, ◌+◌, ◌-◌, ◌≤◌, ◌<◌, eqb, leb, length, get_or}
+use Rattle.std.proofs.Common.{sym, ap, ◌∙◌, true≢false, arith, leb-true}
 use Rattle.std.proofs.Math.Bool.{false}
 use Rattle.std.proofs.lemmas.Option.{none-some, same_Some}
 use Rattle.std.proofs.lemmas.Bool.{false≢true}
@@ -78,7 +78,7 @@ module _ (s c f : List ℕ) (n : ℕ) (calls : List ℕ) (left i : ℕ) (v : Wri
         r z
         (λ o l. rw e (wrote-faults v u o l k.0 k.1 (fault 64 p ∷ []) k.2 (k.3 ∙ lower-none-right v.uneven)))
 
-    module _ (h : List ℕ) (known : Known s c f n h) (most : left ≤ levels) (k m : ℕ) (only : Only s c f n wanted k) (cell : m ≡ get_or f k 0) (g : told.Fault)
+    module _ (quiet loose alone : List ℕ) (known : Known s c f n quiet loose alone) (most : left ≤ levels) (k m : ℕ) (only : Only s c f n wanted k) (cell : m ≡ get_or f k 0) (g : told.Fault)
         (counts : g ≡ fault_of (places_of 65 (argument_faults (call_in s c i) (macro_in s c m)))) where
       found : called_by (macros_in s c f n) wanted ≡ macro_in s c m ∷ []
       found = only.only ∙ ap (λ j. macro_in s c j ∷ []) (sym cell)
@@ -124,21 +124,20 @@ module _ (s c f : List ℕ) (n : ℕ) (calls : List ℕ) (left i : ℕ) (v : Wri
           below = let y : 1 ≤ left = not-zero left some in omega arith
 
           -- it is quiet
-          pub judge-quiet : get_or h k 0 < left → (r : Step) → r.state ≡ v → r.call ≡ None → Judged s c f n calls left i v r
+          pub judge-quiet : get_or quiet k 0 < left → (r : Step) → r.state ≡ v → r.call ≡ None → Judged s c f n calls left i v r
           judge-quiet y r e z =
-              judged-stay (just []) (entering ∙ quiet-writes s c f n h (drop n h) known.heights k (left - 1) only.listed given below (omega arith)) r z
+              judged-stay (just []) (entering ∙ quiet-writes s c f n quiet loose known.heights k (left - 1) only.listed given below (omega arith)) r z
               (λ o l. rw e (wrote_none v o l))
 
           -- it meets no fault, and nothing more is written
-          pub judge-settled : ((is_over v) && leb left (get_or h (n + k) 0)) ≡ true → (r : Step) → r.state ≡ v → r.call ≡ None → Judged s c f n calls left i v r
+          pub judge-settled : ((is_over v) && leb left (get_or loose k 0)) ≡ true → (r : Step) → r.state ≡ v → r.call ≡ None → Judged s c f n calls left i v r
           judge-settled y r e z =
               let w = expand (macros_in s c f n) (left - 1) given (body_in s c (get_or f k 0)) in
-              let x : left ≤ get_or h (n + k) 0 = leb-true left (get_or h (n + k) 0) (both_right (is_over v) (leb left (get_or h (n + k) 0)) y) in
-              let d : get_or (drop n h) k 0 ≡ get_or h (n + k) 0 = get_or-drop n h k 0 in
+              let x : left ≤ get_or loose k 0 = leb-true left (get_or loose k 0) (both_right (is_over v) (leb left (get_or loose k 0)) y) in
               let j = below in
               judged-stay w entering r z
-              (λ o l. rw e (wrote-over w v o l (both_left (is_over v) (leb left (get_or h (n + k) 0)) y)
-              (fixed-writes s c f n h (drop n h) known.heights k (left - 1) only.listed given below (omega arith))))
+              (λ o l. rw e (wrote-over w v o l (both_left (is_over v) (leb left (get_or loose k 0)) y)
+              (fixed-writes s c f n quiet loose known.heights k (left - 1) only.listed given below (omega arith))))
 
           -- it is remembered
           pub judge-found : (slots : List Slot) → Found s c slots calls left i m → Remembers s c f n slots v → (r : Step) → r.state ≡ v → r.call ≡ None → Judged s c f n calls left i v r

@@ -10,62 +10,55 @@ ghost use Rattle.macros.specs.Expansion.{filled_in, levels};
 ghost use Rattle.macros.specs.Pieces.Piece.{called};
 ghost use Rattle.macro_memory.specs.Memory.{reach, Found, Remembers};
 ghost use Rattle.macro_values.specs.Wrote.{is_over, size_of, Wrote};
-ghost use Rattle.macro_expansion.specs.Expanding.{arguments_at, FitsList, Judged, Met, Near, Whole, Behind, Ran, Expands, Keeps, change_writes, rest_writes};
+ghost use Rattle.macro_expansion.specs.Expanding.{arguments_at, FitsList, Judged, Met, Near, Whole, Behind, Ran, Expands, change_writes, rest_writes};
 
 mod listing;
 
 pub use listing::Macros;
-use macro_code::{Change, CodePlaces, Coded, Given};
-use macro_memory::{Entered, LEVELS, Memory};
+use macro_code::{Change, Changes, CodePlaces, Coded, Given, LEVELS};
+pub use macro_memory::Level;
+use macro_memory::{Entered, Memory};
 use macro_values::{Around, Written};
 use statements::lower;
 
 // Room for a name, more than the 60 bytes that one may have.
 const NAME_ROOM: usize = 64;
 
-// A macro, the section or a change: its cell; and how many levels are left there.
-#[derive(Clone, Copy)]
-pub struct Level {
-    pub cell: usize,
-    pub left: usize,
-}
-
 // A change that is passed; or a call that is to be entered, by the cell of its macro.
-#[derive(Clone, Copy)]
+#[derive(Clone, Copy, Debug, PartialEq, Eq)]
 pub struct Step {
     pub state: Written,
     pub call: Option<usize>,
 }
 
-// The rest of a body: from a place of the text up to another, with so many changes from a cell on; and its level.
-#[derive(Clone, Copy)]
-pub struct Rest {
+// The rest of a body: from a place of the text up to another, with the changes that are left; and its level.
+#[derive(Clone, Copy, Debug, PartialEq, Eq)]
+pub struct Rest<'a> {
     pub place: usize,
     pub stop: usize,
-    pub cell: usize,
-    pub changes: usize,
+    pub changes: Changes<'a>,
     pub left: usize,
 }
 
-// A call that is to be entered: the cell of its macro, and its own; and how many changes are left from it on.
-#[derive(Clone, Copy)]
-pub struct Pause {
+// A call that is to be entered: the cell of its macro, and its own; and the changes behind it.
+#[derive(Clone, Copy, Debug, PartialEq, Eq)]
+pub struct Pause<'a> {
     pub body: usize,
     pub cell: usize,
-    pub changes: usize,
+    pub changes: Changes<'a>,
 }
 
 // A body that is written up to a call that is to be entered, or to its end.
-#[derive(Clone, Copy)]
-pub struct Paused {
+#[derive(Clone, Copy, Debug, PartialEq, Eq)]
+pub struct Paused<'a> {
     pub state: Written,
-    pub call: Option<Pause>,
+    pub call: Option<Pause<'a>>,
 }
 
 // The macro of a call's name within the nested calls, which is written into the row `name`. A name that has no room is no macro's.
 fn find_written(list: &Macros, around: &Around, cell: usize, name: &mut [u8]) -> Option<usize>
     requires { (cell < reach) × (limit.item < length name.old) × (length name.old < half) }
-    ensures { Finds list.now.listed.coded.text.now list.now.listed.coded.code.now list.now.listed.firsts.now list.now.listed.count (filled_in (arguments_in around.now.coded.text.now around.now.coded.code.now around.now.calls.now around.now.depth) (given_in around.now.coded.text.now around.now.coded.code.now (cell + name_cell))) result }
+    ensures { Finds list.now.listed.coded.text.now list.now.listed.coded.code.now list.now.listed.firsts.now (length list.now.listed.firsts.now) (filled_in (arguments_in around.now.coded.text.now around.now.coded.code.now around.now.calls.now around.now.depth) (given_in around.now.coded.text.now around.now.coded.code.now (cell + name_cell))) result }
 {
     let written = around.write_given(cell + CodePlaces::NAME, name, Written::nothing());
     let n = written.count?;
@@ -73,20 +66,14 @@ fn find_written(list: &Macros, around: &Around, cell: usize, name: &mut [u8]) ->
 }
 
 // The macro of a call's name within the nested calls.
-fn called_macro(list: &Macros, calls: &[u32], at: Level) -> Option<usize>
+fn called_macro(list: &Macros, memory: &Memory, at: Level) -> Option<usize>
     requires { (at.cell < reach) × (at.left ≤ levels) }
-    ensures { Finds list.now.listed.coded.text.now list.now.listed.coded.code.now list.now.listed.firsts.now list.now.listed.count (filled_in (arguments_at list.now.listed.coded.text.now list.now.listed.coded.code.now calls.now at.left) (given_in list.now.listed.coded.text.now list.now.listed.coded.code.now (at.cell + name_cell))) result }
+    ensures { Finds list.now.listed.coded.text.now list.now.listed.coded.code.now list.now.listed.firsts.now (length list.now.listed.firsts.now) (filled_in (arguments_at list.now.listed.coded.text.now list.now.listed.coded.code.now memory.now.calls at.left) (given_in list.now.listed.coded.text.now list.now.listed.coded.code.now (at.cell + name_cell))) result }
 {
-    let n = list.listed.count;
     if let Given::Typed = list.listed.coded.given_at(at.cell + CodePlaces::NAME) {
-        let singles = macro_code::part(list.heights, n + n, n);
-        return macro_calls::find_target(&list.listed, singles, list.hints(), at.cell);
+        return macro_calls::find_target(&list.listed, list.singles, list.hints, at.cell);
     }
-    let around = Around {
-        coded: list.listed.coded,
-        calls,
-        depth: LEVELS - at.left,
-    };
+    let around = memory.around(&list.listed.coded, at.left);
     find_written(list, &around, at.cell, &mut [0u8; NAME_ROOM])
 }
 
@@ -100,61 +87,56 @@ fn stay(v: Written) -> Step
     }
 }
 
-// Whether nothing more is written, and the macro whose loose height is at `k` meets no call by a parameter with so many levels left around it.
+// Whether nothing more is written, and the macro number `k` meets no call by a parameter with so many levels left around it.
 fn is_settled(list: &Macros, k: usize, left: usize, v: Written) -> bool
-    ensures { result ≡ (is_over v && leb left (get_or list.now.heights.now k 0)) }
+    ensures { result ≡ (is_over v && leb left (get_or list.now.loose.now k 0)) }
 {
-    v.count.is_none() & (left <= list.height(k))
+    v.count.is_none() & (left <= list.loose_height(k))
 }
 
-// Whether a call is remembered as one that changes nothing. It is looked up only if the macro, whose loose height is at `k`, meets a call by a parameter.
+// Whether a call is remembered as one that changes nothing. It is looked up only if the macro number `k` meets a call by a parameter.
 fn is_done(list: &Macros, memory: &Memory, k: usize, at: Entered) -> bool
     requires { (at.cell < reach) × (1 ≤ at.left) × (at.left ≤ levels) × (at.body < half) }
     ensures { result ≡ true → Found list.now.listed.coded.text.now list.now.listed.coded.code.now memory.now.slots memory.now.calls at.left at.cell at.body }
 {
-    if at.left <= list.height(k) {
-        return false;
-    }
-    memory.has(&list.listed.coded, at)
+    list.loose_height(k) < at.left && memory.has(&list.listed.coded, at)
 }
 
 // Passes a call, unless it is to be entered: "each called macro in the list once? 64. Are there as many arguments as parameters? 65."
 fn meet_call(list: &Macros, memory: &Memory, at: Level, v: Written) -> Step
-    requires { (at.cell < reach) × (at.left ≤ levels) × ((change_in list.now.listed.coded.text.now list.now.listed.coded.code.now at.cell).pieces ≡ called (call_in list.now.listed.coded.text.now list.now.listed.coded.code.now at.cell) ∷ []) × Remembers list.now.listed.coded.text.now list.now.listed.coded.code.now list.now.listed.firsts.now list.now.listed.count memory.now.slots v }
-    ensures { Judged list.now.listed.coded.text.now list.now.listed.coded.code.now list.now.listed.firsts.now list.now.listed.count memory.now.calls at.left at.cell v result }
+    requires { (at.cell < reach) × (at.left ≤ levels) × ((change_in list.now.listed.coded.text.now list.now.listed.coded.code.now at.cell).pieces ≡ called (call_in list.now.listed.coded.text.now list.now.listed.coded.code.now at.cell) ∷ []) × Remembers list.now.listed.coded.text.now list.now.listed.coded.code.now list.now.listed.firsts.now (length list.now.listed.firsts.now) memory.now.slots v }
+    ensures { Judged list.now.listed.coded.text.now list.now.listed.coded.code.now list.now.listed.firsts.now (length list.now.listed.firsts.now) memory.now.calls at.left at.cell v result }
 {
-    let cell = at.cell;
-    let left = at.left;
-    let Some(k) = called_macro(list, &memory.calls, at) else {
-        let place = list.listed.coded.high(cell + CodePlaces::NAME);
+    let Some(k) = called_macro(list, memory, at) else {
+        let place = list.listed.coded.high(at.cell + CodePlaces::NAME);
         return stay(Written {
             unknown: lower(v.unknown, Some(place)),
             ..v
         });
     };
-    let body = macro_calls::number_at(list.listed.firsts, k);
-    let uneven = macro_calls::count_fault(&list.listed.coded, cell, body);
+    let body = list.listed.first_cell(k);
+    let uneven = macro_calls::count_fault(&list.listed.coded, at.cell, body);
     if uneven.is_some() {
         return stay(Written {
             uneven: lower(v.uneven, uneven),
             ..v
         });
     }
-    if left == 0 {
+    if at.left == 0 {
         return stay(Written { count: None, ..v });
     }
-    if list.height(k) < left {
+    if list.quiet_height(k) < at.left {
         return stay(v);
     }
-    if is_settled(list, list.listed.count + k, left, v) {
+    if is_settled(list, k, at.left, v) {
         return stay(v);
     }
     let entered = Entered {
-        cell: cell,
-        left: left,
-        body: body,
+        cell: at.cell,
+        left: at.left,
+        body,
     };
-    if is_done(list, memory, list.listed.count + k, entered) {
+    if is_done(list, memory, k, entered) {
         return stay(v);
     }
     Step {
@@ -166,15 +148,11 @@ fn meet_call(list: &Macros, memory: &Memory, at: Level, v: Written) -> Step
 // Passes a change, unless it is a call that is to be entered.
 fn meet(list: &Macros, memory: &Memory, out: &mut [u8], at: Level, v: Written) -> Step
     requires { (at.cell < reach) × FitsList list.now at.left memory.now.slots v out.old }
-    ensures { Met list.now.listed.coded.text.now list.now.listed.coded.code.now list.now.listed.firsts.now list.now.listed.count memory.now.calls at.left at.cell v result out.old out.new }
+    ensures { Met list.now.listed.coded.text.now list.now.listed.coded.code.now list.now.listed.firsts.now (length list.now.listed.firsts.now) memory.now.calls at.left at.cell v result out.old out.new }
 {
     match list.listed.coded.change_at(at.cell) {
         Change::Value(k) => {
-            let around = Around {
-                coded: list.listed.coded,
-                calls: &memory.calls,
-                depth: LEVELS - at.left,
-            };
+            let around = memory.around(&list.listed.coded, at.left);
             stay(around.write_value(k, out, v))
         }
         Change::Call(_) => meet_call(list, memory, at, v),
@@ -183,34 +161,30 @@ fn meet(list: &Macros, memory: &Memory, out: &mut [u8], at: Level, v: Written) -
 }
 
 // Writes the rest of a body up to the next call that is to be entered.
-fn run(list: &Macros, memory: &Memory, out: &mut [u8], rest: Rest, v: Written) -> Paused
-    requires { Near rest × FitsList list.now rest.left memory.now.slots v out.old }
-    ensures { Ran list.now.listed.coded.text.now list.now.listed.coded.code.now list.now.listed.firsts.now list.now.listed.count memory.now.calls rest.left rest.stop rest.changes (rest_writes list.now.listed.coded.text.now list.now.listed.coded.code.now list.now.listed.firsts.now list.now.listed.count memory.now.calls rest.left rest.place rest.stop rest.cell rest.changes) v result out.old out.new }
+fn run<'a>(list: &Macros, memory: &Memory, out: &mut [u8], rest: Rest<'a>, v: Written) -> Paused<'a>
+    requires { Near list.now.listed.coded.code.now rest × FitsList list.now rest.left memory.now.slots v out.old }
+    ensures { Ran list.now.listed.coded.text.now list.now.listed.coded.code.now list.now.listed.firsts.now (length list.now.listed.firsts.now) memory.now.calls rest.entry.left rest.entry.stop rest.entry.changes.left (rest_writes list.now.listed.coded.text.now list.now.listed.coded.code.now list.now.listed.firsts.now (length list.now.listed.firsts.now) memory.now.calls rest.entry.left rest.entry.place rest.entry.stop rest.entry.changes.cell rest.entry.changes.left) v result out.old out.new }
 {
     let coded = &list.listed.coded;
+    let left = rest.left;
     let mut place = rest.place;
-    let mut cell = rest.cell;
+    let mut changes = rest.changes;
     let mut w = v;
-    for passed in 0..rest.changes {
+    while let Some(cell) = changes.next() {
         let kept = w.append(coded.text, place, coded.high(cell), out);
-        let here = Level {
-            cell: cell,
-            left: rest.left,
-        };
-        let step = meet(list, memory, out, here, kept);
+        let step = meet(list, memory, out, Level { cell, left }, kept);
         if let Some(body) = step.call {
             return Paused {
                 state: step.state,
                 call: Some(Pause {
-                    body: body,
-                    cell: cell,
-                    changes: rest.changes - passed,
+                    body,
+                    cell,
+                    changes,
                 }),
             };
         }
         w = step.state;
         place = coded.low(cell);
-        cell += macro_calls::change_size(coded, cell);
     }
     Paused {
         state: w.append(coded.text, place, rest.stop, out),
@@ -219,31 +193,27 @@ fn run(list: &Macros, memory: &Memory, out: &mut [u8], rest: Rest, v: Written) -
 }
 
 // The whole of a body.
-fn whole(coded: &Coded, at: Level) -> Rest
+fn whole<'a>(coded: &Coded<'a>, at: Level) -> Rest<'a>
     requires { at.cell < half }
     ensures { Whole coded.now.code.now at result }
 {
-    let cell = at.cell;
     Rest {
-        place: coded.high(cell + CodePlaces::SPAN),
-        stop: coded.low(cell + CodePlaces::SPAN),
-        cell: macro_calls::first_change(coded, cell),
-        changes: coded.low(cell + CodePlaces::COUNTS),
+        place: coded.high(at.cell + CodePlaces::SPAN),
+        stop: coded.low(at.cell + CodePlaces::SPAN),
+        changes: coded.changes(at.cell),
         left: at.left,
     }
 }
 
 // The rest of a body behind a call.
-fn behind(coded: &Coded, at: Level, pause: Pause) -> Rest
-    requires { (at.cell < half) × (pause.cell < cells) × (1 ≤ pause.changes) × (pause.changes < half) }
-    ensures { Behind coded.now.code.now at pause result }
+fn behind<'a>(coded: &Coded, at: Level, pause: Pause<'a>) -> Rest<'a>
+    requires { (at.cell < half) × (pause.changes.coded.code.now ≡ coded.now.code.now) }
+    ensures { Behind coded.now.code.now at pause.entry result }
 {
-    let cell = pause.cell;
     Rest {
-        place: coded.low(cell),
+        place: coded.low(pause.cell),
         stop: coded.low(at.cell + CodePlaces::SPAN),
-        cell: cell + macro_calls::change_size(coded, cell),
-        changes: pause.changes - 1,
+        changes: pause.changes,
         left: at.left,
     }
 }
@@ -264,21 +234,10 @@ fn is_steady(v: Written, r: Written) -> bool
     r.count.is_none() | (r.count == v.count)
 }
 
-// Remembers the body of the innermost call, if it left the row as it was, or over.
-fn keep_body(list: &Macros, memory: &mut Memory, at: Level, steady: bool)
-    requires { (at.cell < half) × (at.left < levels) }
-    ensures { Keeps list.now.listed.coded.text.now list.now.listed.coded.code.now memory.old memory.new at.left at.cell steady }
-{
-    if !steady {
-        return;
-    }
-    memory.remember(&list.listed.coded, at.left + 1, at.cell);
-}
-
 // Writes a body: recursive expansion; the levels left, 16 at first, fall at each call.
 fn expand_body(list: &Macros, memory: &mut Memory, out: &mut [u8], at: Level, v: Written) -> Written
     requires { (at.cell < half) × (at.left < levels) × FitsList list.now at.left memory.old.slots v out.old }
-    ensures { Expands list.now.listed.coded.text.now list.now.listed.coded.code.now list.now.listed.firsts.now list.now.listed.count memory.old memory.new at.left at.cell v result out.old out.new }
+    ensures { Expands list.now.listed.coded.text.now list.now.listed.coded.code.now list.now.listed.firsts.now (length list.now.listed.firsts.now) memory.old memory.new at.left at.cell v result out.old out.new }
 {
     let mut paused = run(list, memory, out, whole(&list.listed.coded, at), v);
     while let Some(pause) = paused.call {
@@ -297,7 +256,10 @@ fn expand_body(list: &Macros, memory: &mut Memory, out: &mut [u8], at: Level, v:
         );
     }
     let last = paused.state;
-    keep_body(list, memory, at, is_steady(v, last));
+    if !is_steady(v, last) {
+        return last;
+    }
+    memory.remember(&list.listed.coded, at);
     last
 }
 
@@ -310,7 +272,7 @@ pub fn write_change(
     v: Written,
 ) -> Written
     requires { (at.cell < reach) × FitsList list.now at.left memory.old.slots v out.old }
-    ensures { Wrote (change_writes list.now.listed.coded.text.now list.now.listed.coded.code.now list.now.listed.firsts.now list.now.listed.count memory.old.calls at.left at.cell) v result out.old out.new × Remembers list.now.listed.coded.text.now list.now.listed.coded.code.now list.now.listed.firsts.now list.now.listed.count memory.new.slots result }
+    ensures { Wrote (change_writes list.now.listed.coded.text.now list.now.listed.coded.code.now list.now.listed.firsts.now (length list.now.listed.firsts.now) memory.old.calls at.left at.cell) v result out.old out.new × Remembers list.now.listed.coded.text.now list.now.listed.coded.code.now list.now.listed.firsts.now (length list.now.listed.firsts.now) memory.new.slots result }
 {
     let step = meet(list, memory, out, at, v);
     let Some(body) = step.call else {
@@ -318,9 +280,5 @@ pub fn write_change(
     };
     keep_call(memory, LEVELS - at.left, at.cell);
     let left = at.left - 1;
-    let inner = Level {
-        cell: body,
-        left: left,
-    };
-    expand_body(list, memory, out, inner, step.state)
+    expand_body(list, memory, out, Level { cell: body, left }, step.state)
 }

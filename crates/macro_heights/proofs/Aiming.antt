@@ -5,7 +5,8 @@ use mathlib.Core.List.{List, [], ◌∷◌, map, append-nil}
 use Prim.Native.Nat.{ℕ, ◌+◌}
 use native.Mathlib.Omega.{arith}
 use borrow.Author.Tests.{lt-ltb, le-ltb}
-use Rattle.std.specs.Prelude.{Some, None}
+use Rattle.std.specs.Bool.{then_some}
+use Rattle.std.specs.Prelude.{Option, Some, None, is_some, unwrap_or}
 use lib.Dec.{eqb, ltb}
 use lib.ListN.{length, get_or, take, drop}
 use Rattle.lists.specs.Lists.{filled}
@@ -119,3 +120,13 @@ module _ (s c firsts : List ℕ) (n i : ℕ) where
                   ∙ ap (λ z. not (filled z) && passes target.body) (no-fault (places_of 65 (argument_faults d target)) (sym fault_is ∙ u))
                   ∙ sym (ap (λ z. z && passes target.body) (lt-ltb k n found.only.listed));
             }
+
+        -- as the code asks
+        pub aims-counted : (b : Bool) → is_some x ≡ not b → {r : Option ℕ} → r ≡ then_some b k → Aims s c firsts n i (unwrap_or r n)
+        aims-counted b u {r} v = rw v (go b x refl u)
+          where
+            go : (a : Bool) (y : Fault) → x ≡ y → is_some y ≡ not a → Aims s c firsts n i (unwrap_or (then_some a k) n)
+            go true None z w = aims-right z
+            go true (Some p) z w = absurd (true≢false w)
+            go false None z w = absurd (false≢true w)
+            go false (Some p) z w = aims-uneven z

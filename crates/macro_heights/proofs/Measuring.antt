@@ -2,7 +2,7 @@
 use mathlib.Core.Path.{◌≡◌, refl, sym, ap, ◌∙◌}
 use mathlib.Core.Bool.{Bool, true, false, cond, not, ◌&&◌, and-true, and-false, and_assoc}
 use mathlib.Core.List.{List, [], ◌∷◌, ◌++◌}
-use Prim.Native.Nat.{ℕ, suc, min, max, ◌+◌, ◌*◌, ◌-◌, ◌≤◌, ◌<◌}
+use Prim.Native.Nat.{ℕ, suc, min, max, ◌+◌, ◌-◌, ◌≤◌, ◌<◌}
 use native.Mathlib.Decide.{dec_lt}
 use native.Mathlib.Numerals.{add-one}
 use native.Mathlib.Omega.{arith}
@@ -12,12 +12,14 @@ use lib.ListN.{get_or, take, drop}
 use Rattle.lists.specs.Lists.{all, filled}
 use Rattle.macros.specs.Expansion.{levels}
 use Rattle.macros.specs.Macros.{Macro}
-use Rattle.macros.specs.Pieces.{Call, Piece, pieces_from}
+use Rattle.macros.specs.Pieces.{Call, Change, Piece, pieces_from}
 use Rattle.macros.specs.Pieces.Piece.{kept, value, called}
 use Rattle.macros.specs.Silence.{right_call, silent_piece, fixed_piece}
-use Rattle.macro_code.specs.Code.{high, low, call_in, change_in, size_at, changes_in, first_change, change_count, body_in, macros_in}
+use Rattle.macro_code.specs.ChangeLaws.{changes-turn, changes-done}
+use Rattle.macro_code.specs.Changes.{StartsAt, Gives}
+use Rattle.macro_code.specs.declared.changes.Changes.{Changes}
+use Rattle.macro_code.specs.Code.{high, low, call_in, change_in, changes_in, body_in, macros_in}
 use Rattle.macro_code.specs.Places.{span_cell, kind_cell}
-use Rattle.macro_code.specs.Bounds.{near, widest}
 use Rattle.macro_heights.specs.Levels.{Aims, Greater, Lesser, Measures, Quiet, Loose, quiet_at, loose_at}
 
 -- the greater and the lesser of two heights
@@ -97,21 +99,17 @@ module _ (at : ℕ → ℕ → Bool) (test : (List Piece → Bool) → Piece →
         go (yes u) = rw (lt-ltb k n u) (call-measured u refl)
         go (no u) = rw (le-ltb k n (omega arith)) (call-refused (omega arith) g)
 
-  -- what is left of the body at the cell q: from a place on, with the change number k at the cell i; acc is the height of what was passed
-  pub record Rest (q place i k acc : ℕ) : Type 0 where
-    pub few : change_count c q < 65536
-    pub bound : i < near + near + 131074 * k
-    pub most : k ≤ change_count c q
+  -- what is left of the body at the cell q: from a place on, with the changes that are left; acc is the height of what was passed
+  pub record Rest (q place : ℕ) (left : Changes) (acc : ℕ) : Type 0 where
+    pub code : left.coded.code.now ≡ c
     pub is : (l : ℕ) → l < levels → (passes : List Piece → Bool) → Fits l passes
-        → (at acc l && all (test passes) (pieces_from s place (low c (q + span_cell)) (changes_in s c i (change_count c q - k)))) ≡ all (test passes) (body_in s c q)
+        → (at acc l && all (test passes) (pieces_from s place (low c (q + span_cell)) (changes_in s c left.cell left.left))) ≡ all (test passes) (body_in s c q)
 
-  pub rest-first : (q : ℕ) {i place acc : ℕ} → change_count c q < 65536 → i ≡ first_change c q → i < near + near → place ≡ high c (q + span_cell)
-      → ((l : ℕ) → l < levels → at acc l ≡ true) → Rest q place i 0 acc
+  pub rest-first : (q : ℕ) {left : Changes} {place acc : ℕ} → StartsAt c q left → place ≡ high c (q + span_cell) → ((l : ℕ) → l < levels → at acc l ≡ true) → Rest q place left acc
   unfolding body_in
-  rest-first q {i} {place} {acc} few e h f g =
-      record { few = few; bound = omega arith; most = omega arith; is = λ l u passes fits. let z : change_count c q - 0 ≡ change_count c q = omega arith in rw (g l u, e, f, z) refl }
+  rest-first q {left} {place} {acc} h f g = record { code = h.code_is; is = λ l u passes fits. rw (g l u, h.cell_is, h.left_is, f) refl }
 
-  module _ {q place i k acc : ℕ} (p : Rest q place i k acc) where
+  module _ {q place : ℕ} {left : Changes} {acc : ℕ} (p : Rest q place left acc) where
     regrouped : (x y z w : Bool) → ((x && (y && z)) && w) ≡ (x && (y && (z && w)))
     regrouped x y z w = and_assoc x (y && z) w ∙ ap (λ b. x && b) (and_assoc y z w)
 
@@ -119,44 +117,39 @@ module _ (at : ℕ → ℕ → Bool) (test : (List Piece → Bool) → Piece →
     all_both g [] ys = refl
     all_both g (x ∷ xs) ys = ap (λ b. g x && b) (all_both g xs ys) ∙ sym (and_assoc (g x) (all g xs) (all g ys))
 
-    pub rest-on : k < change_count c q → {acc₁ : ℕ}
+    pub rest-on : {i : ℕ} {after : Changes} → Gives left i after → {acc₁ : ℕ}
         → ((l : ℕ) → l < levels → (passes : List Piece → Bool) → Fits l passes
         → at acc₁ l ≡ (at acc l && (test passes (kept place (take (high c i - place) (drop place s))) && all (test passes) (change_in s c i).pieces)))
-        → {place₁ : ℕ} → place₁ ≡ low c i → {size : ℕ} → size ≡ size_at c i → size ≤ widest → Rest q place₁ (i + size) (k + 1) acc₁
-    unfolding changes_in pieces_from change_in
-    rest-on h {acc₁} g {place₁} e {size} f w =
+        → {place₁ : ℕ} → place₁ ≡ low c i → Rest q place₁ after acc₁
+    unfolding pieces_from change_in
+    rest-on {i} {after} gives {acc₁} g {place₁} e =
         record {
-          few = p.few;
-          bound = omega (arith, p.bound);
-          most = omega arith;
+          code = gives.code_stays ∙ p.code;
           is = λ l u passes fits.
-              let left : ℕ = change_count c q - (k + 1) in
-              let z : change_count c q - k ≡ suc left = omega arith in
-              let rest : List Piece = pieces_from s place₁ (low c (q + span_cell)) (changes_in s c (i + size) left) in
+              let rest : List Piece = pieces_from s place₁ (low c (q + span_cell)) (changes_in s c after.cell after.left) in
               ap (λ b. b && all (test passes) rest) (g l u passes fits)
               ∙ regrouped (at acc l) (test passes (kept place (take (high c i - place) (drop place s)))) (all (test passes) (change_in s c i).pieces) (all (test passes) rest)
               ∙ ap (λ b. at acc l && (test passes (kept place (take (high c i - place) (drop place s))) && b)) (sym (all_both (test passes) (change_in s c i).pieces rest))
-              ∙ next l passes left
-              ∙ ap (λ (m : ℕ). at acc l && all (test passes) (pieces_from s place (low c (q + span_cell)) (changes_in s c i m))) (sym z)
+              ∙ next l passes (changes_in s c after.cell after.left)
+              ∙ ap (λ ds. at acc l && all (test passes) (pieces_from s place (low c (q + span_cell)) ds)) (sym (changes-turn s c left p.code gives))
               ∙ p.is l u passes fits;
         }
       where
-        next : (l : ℕ) (passes : List Piece → Bool) (left : ℕ)
+        next : (l : ℕ) (passes : List Piece → Bool) (ds : List Change)
             → (at acc l && (test passes (kept place (take (high c i - place) (drop place s)))
-            && all (test passes) ((change_in s c i).pieces ++ pieces_from s place₁ (low c (q + span_cell)) (changes_in s c (i + size) left))))
-            ≡ (at acc l && all (test passes) (pieces_from s place (low c (q + span_cell)) (changes_in s c i (suc left))))
-        next l passes left = rw (e, f) refl
+            && all (test passes) ((change_in s c i).pieces ++ pieces_from s place₁ (low c (q + span_cell)) ds)))
+            ≡ (at acc l && all (test passes) (pieces_from s place (low c (q + span_cell)) (change_in s c i ∷ ds)))
+        next l passes ds = rw e refl
 
-    pub rest_end : change_count c q ≤ k → {r : ℕ}
+    pub rest_end : left.left ≡ 0 → {r : ℕ}
         → ((l : ℕ) → l < levels → (passes : List Piece → Bool) → Fits l passes → at r l ≡ (at acc l && test passes (kept place (take (low c (q + span_cell) - place) (drop place s)))))
         → Measures at test s c firsts n row (body_in s c q) r
-    unfolding changes_in pieces_from
+    unfolding pieces_from
     rest_end h {r} g =
         record {
           is = λ l u passes fits.
-              let z : 0 ≡ change_count c q - k = omega (arith, p.most) in
               g l u passes fits ∙ ap (λ b. at acc l && b) (sym (and-true (test passes (kept place (take (low c (q + span_cell) - place) (drop place s))))))
-              ∙ ap (λ (m : ℕ). at acc l && all (test passes) (pieces_from s place (low c (q + span_cell)) (changes_in s c i m))) z
+              ∙ ap (λ ds. at acc l && all (test passes) (pieces_from s place (low c (q + span_cell)) ds)) (sym (changes-done s c left p.code h))
               ∙ p.is l u passes fits;
         }
 
@@ -194,17 +187,17 @@ module _ (s c firsts : List ℕ) (n : ℕ) (row : List ℕ) where
   abbrev list : List Macro
   list = macros_in s c firsts n
 
-  abbrev pub QuietRest : ℕ → ℕ → ℕ → ℕ → ℕ → Type 0
-  QuietRest q place i k acc = Rest quiet_at (silent_piece list) s c firsts n row q place i k acc
+  abbrev pub QuietRest : ℕ → ℕ → Changes → ℕ → Type 0
+  QuietRest q place left acc = Rest quiet_at (silent_piece list) s c firsts n row q place left acc
 
-  abbrev pub LooseRest : ℕ → ℕ → ℕ → ℕ → ℕ → Type 0
-  LooseRest q place i k acc = Rest loose_at (fixed_piece list) s c firsts n row q place i k acc
+  abbrev pub LooseRest : ℕ → ℕ → Changes → ℕ → Type 0
+  LooseRest q place left acc = Rest loose_at (fixed_piece list) s c firsts n row q place left acc
 
-  module _ {q place i k acc : ℕ} where
-    pub quiet-on : QuietRest q place i k acc → k < change_count c q → {start g a h b : ℕ} → start ≡ high c i
+  module _ {q place : ℕ} {left : Changes} {acc : ℕ} where
+    pub quiet-on : QuietRest q place left acc → {i : ℕ} {after : Changes} → Gives left i after → {start g a h b : ℕ} → start ≡ high c i
         → g ≡ cond (filled (take (start - place) (drop place s))) levels 0 → a ≡ max acc g → Quiet s c firsts n row (change_in s c i).pieces h → b ≡ max a h
-        → {place₁ : ℕ} → place₁ ≡ low c i → {size : ℕ} → size ≡ size_at c i → size ≤ widest → QuietRest q place₁ (i + size) (k + 1) b
-    quiet-on p l {start} {g} {a} {h} {b} e f u v w x y z = rest-on quiet_at (silent_piece list) s c firsts n row p l step x y z
+        → {place₁ : ℕ} → place₁ ≡ low c i → QuietRest q place₁ after b
+    quiet-on p {i} {after} l {start} {g} {a} {h} {b} e f u v w x = rest-on quiet_at (silent_piece list) s c firsts n row p l step x
       where
         f₁ : g ≡ cond (filled (take (high c i - place) (drop place s))) levels 0
         f₁ = f ∙ ap (λ (m : ℕ). cond (filled (take (m - place) (drop place s))) levels 0) e
@@ -216,19 +209,19 @@ module _ (s c firsts : List ℕ) (n : ℕ) (row : List ℕ) where
             ∙ ap (λ x. leb acc l && (x && leb h l)) (gap-quiet s place (high c i) list passes f₁ l m)
             ∙ ap (λ x. leb acc l && (silent_piece list passes (kept place (take (high c i - place) (drop place s))) && x)) (v.is l m passes fits)
 
-    pub quiet-end : QuietRest q place i k acc → change_count c q ≤ k → {stop g r : ℕ} → stop ≡ low c (q + span_cell)
+    pub quiet-end : QuietRest q place left acc → left.left ≡ 0 → {stop g r : ℕ} → stop ≡ low c (q + span_cell)
         → g ≡ cond (filled (take (stop - place) (drop place s))) levels 0 → r ≡ max acc g → Quiet s c firsts n row (body_in s c q) r
     quiet-end p l {stop} {g} {r} e f u =
         rest_end quiet_at (silent_piece list) s c firsts n row p l
         (λ m v passes fits. (max-greater u).is m ∙ ap (λ x. leb acc m && x)
         (gap-quiet s place (low c (q + span_cell)) list passes (f ∙ ap (λ (j : ℕ). cond (filled (take (j - place) (drop place s))) levels 0) e) m v))
 
-    pub loose-on : LooseRest q place i k acc → k < change_count c q → {h b : ℕ} → Loose s c firsts n row (change_in s c i).pieces h → b ≡ min acc h
-        → {size : ℕ} → size ≡ size_at c i → size ≤ widest → LooseRest q (low c i) (i + size) (k + 1) b
+    pub loose-on : LooseRest q place left acc → {i : ℕ} {after : Changes} → Gives left i after → {h b : ℕ} → Loose s c firsts n row (change_in s c i).pieces h → b ≡ min acc h
+        → LooseRest q (low c i) after b
     unfolding fixed_piece
-    loose-on p l {h} {b} v w y z =
-        rest-on loose_at (fixed_piece list) s c firsts n row p l (λ m u passes fits. (min-lesser w).is m ∙ ap (λ x. ltb m acc && x) (v.is m u passes fits)) refl y z
+    loose-on p l {h} {b} v w =
+        rest-on loose_at (fixed_piece list) s c firsts n row p l (λ m u passes fits. (min-lesser w).is m ∙ ap (λ x. ltb m acc && x) (v.is m u passes fits)) refl
 
-    pub loose-end : LooseRest q place i k acc → change_count c q ≤ k → Loose s c firsts n row (body_in s c q) acc
+    pub loose-end : LooseRest q place left acc → left.left ≡ 0 → Loose s c firsts n row (body_in s c q) acc
     unfolding fixed_piece
     loose-end p l = rest_end loose_at (fixed_piece list) s c firsts n row p l (λ m u passes fits. sym (and-true (ltb m acc)))

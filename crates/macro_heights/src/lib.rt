@@ -9,44 +9,31 @@ ghost use Rattle.macro_code.specs.Code.{change_in, body_in};
 ghost use Rattle.macro_code.specs.Known.{Heights, Singles};
 ghost use Rattle.macro_heights.specs.Levels.{Aims, Quiet, Loose, Settled, UpTo, Rises, HeightAt, Findable};
 
-use macro_calls::{
-    Listed, change_size, count_fault, find_target, first_change, is_typed_call, number_at,
-};
-use macro_code::{Change, CodePlaces};
-
-// How many levels there are; a macro without a height has this number, since the rows of heights are lent bytes.
-const LEVELS: usize = 16;
+use macro_calls::{Listed, count_fault, find_target, is_typed_call};
+use macro_code::{Change, CodePlaces, LEVELS};
 
 // A list of macros; whether each is the only one of its name, and hints for the calls.
-#[derive(Clone, Copy)]
+#[derive(Clone, Copy, Debug, PartialEq, Eq)]
 struct Hinted<'a> {
     list: Listed<'a>,
     singles: &'a [u8],
     hints: &'a [u16],
-    ghost singles_are: { Singles list.coded.text.now list.coded.code.now list.firsts.now list.count singles.now },
+    ghost singles_are: { Singles list.coded.text.now list.coded.code.now list.firsts.now (length list.firsts.now) singles.now },
 }
 
 // The number of the macro of the call at `i`, where it is a call by a typed name at no fault.
 fn right_macro(macros: &Hinted, i: usize) -> Option<usize>
     requires { i < far }
-    ensures aims { Aims macros.now.list.coded.text.now macros.now.list.coded.code.now macros.now.list.firsts.now macros.now.list.count i (unwrap_or result macros.now.list.count) }
-    ensures listed { IfSome result (λ k. k < macros.now.list.count) }
+    ensures aims { Aims macros.now.list.coded.text.now macros.now.list.coded.code.now macros.now.list.firsts.now (length macros.now.list.firsts.now) i (unwrap_or result (length macros.now.list.firsts.now)) }
+    ensures listed { IfSome result (λ k. k < (length macros.now.list.firsts.now)) }
 {
     let listed = &macros.list;
     if !is_typed_call(&listed.coded, i) {
         return None;
     }
     let number = find_target(listed, macros.singles, macros.hints, i)?;
-    match count_fault(&listed.coded, i, number_at(listed.firsts, number)) {
-        None => Some(number),
-        Some(_) => None,
-    }
-}
-
-fn height_at(row: &[u8], k: usize) -> usize
-    ensures { (result ≡ get_or row.now k 0) × (result < 256) }
-{
-    usize::from(row.get(k).copied().unwrap_or(0))
+    let uneven = count_fault(&listed.coded, i, listed.first_cell(number));
+    uneven.is_none().then_some(number)
 }
 
 // The height of the bytes from a place up to another: no height, unless there are none.
@@ -62,18 +49,17 @@ fn gap_height(text: &[u8], place: usize, stop: usize) -> usize
 // The height of the call at `i`, by the heights so far: one more than its macro's, or `refused` where it is at fault.
 fn call_height(macros: &Hinted, row: &[u8], i: usize, refused: usize) -> usize
     requires { i < far }
-    ensures { (k : _) × Aims macros.now.list.coded.text.now macros.now.list.coded.code.now macros.now.list.firsts.now macros.now.list.count i k × (result ≡ cond (ltb k macros.now.list.count) (get_or row.now k 0 + 1) refused) }
+    ensures { (k : _) × Aims macros.now.list.coded.text.now macros.now.list.coded.code.now macros.now.list.firsts.now (length macros.now.list.firsts.now) i k × (result ≡ cond (ltb k (length macros.now.list.firsts.now)) (get_or row.now k 0 + 1) refused) }
 {
-    match right_macro(macros, i) {
-        Some(k) => height_at(row, k) + 1,
-        None => refused,
-    }
+    right_macro(macros, i).map_or(refused, |k| {
+        usize::from(row.get(k).copied().unwrap_or(0)) + 1
+    })
 }
 
 // With how many levels at least a change writes nothing, by the heights so far.
 fn quiet_change(macros: &Hinted, quiet: &[u8], i: usize) -> usize
     requires { i < far }
-    ensures { Quiet macros.now.list.coded.text.now macros.now.list.coded.code.now macros.now.list.firsts.now macros.now.list.count quiet.now (change_in macros.now.list.coded.text.now macros.now.list.coded.code.now i).pieces result }
+    ensures { Quiet macros.now.list.coded.text.now macros.now.list.coded.code.now macros.now.list.firsts.now (length macros.now.list.firsts.now) quiet.now (change_in macros.now.list.coded.text.now macros.now.list.coded.code.now i).pieces result }
 {
     match macros.list.coded.change_at(i) {
         Change::Value(_) => LEVELS,
@@ -85,7 +71,7 @@ fn quiet_change(macros: &Hinted, quiet: &[u8], i: usize) -> usize
 // With how many levels at least a change meets a call by a parameter or a fault.
 fn loose_change(macros: &Hinted, loose: &[u8], i: usize) -> usize
     requires { i < far }
-    ensures { Loose macros.now.list.coded.text.now macros.now.list.coded.code.now macros.now.list.firsts.now macros.now.list.count loose.now (change_in macros.now.list.coded.text.now macros.now.list.coded.code.now i).pieces result }
+    ensures { Loose macros.now.list.coded.text.now macros.now.list.coded.code.now macros.now.list.firsts.now (length macros.now.list.firsts.now) loose.now (change_in macros.now.list.coded.text.now macros.now.list.coded.code.now i).pieces result }
 {
     match macros.list.coded.change_at(i) {
         Change::Call(_) => call_height(macros, loose, i, 0),
@@ -97,18 +83,16 @@ fn loose_change(macros: &Hinted, loose: &[u8], i: usize) -> usize
 // The same of a body.
 fn quiet_body(macros: &Hinted, quiet: &[u8], q: usize) -> usize
     requires { q < near }
-    ensures { Quiet macros.now.list.coded.text.now macros.now.list.coded.code.now macros.now.list.firsts.now macros.now.list.count quiet.now (body_in macros.now.list.coded.text.now macros.now.list.coded.code.now q) result }
+    ensures { Quiet macros.now.list.coded.text.now macros.now.list.coded.code.now macros.now.list.firsts.now (length macros.now.list.firsts.now) quiet.now (body_in macros.now.list.coded.text.now macros.now.list.coded.code.now q) result }
 {
     let coded = &macros.list.coded;
     let mut place = coded.high(q + CodePlaces::SPAN);
-    let mut i = first_change(coded, q);
     let mut height: usize = 0;
-    for _k in 0..coded.low(q + CodePlaces::COUNTS) {
+    for i in coded.changes(q) {
         height = height
             .max(gap_height(coded.text, place, coded.high(i)))
             .max(quiet_change(macros, quiet, i));
         place = coded.low(i);
-        i += change_size(coded, i);
     }
     height.max(gap_height(coded.text, place, coded.low(q + CodePlaces::SPAN)))
 }
@@ -116,14 +100,11 @@ fn quiet_body(macros: &Hinted, quiet: &[u8], q: usize) -> usize
 // Apart from the other: bytes between changes do not count, and the least height does.
 fn loose_body(macros: &Hinted, loose: &[u8], q: usize) -> usize
     requires { q < near }
-    ensures { Loose macros.now.list.coded.text.now macros.now.list.coded.code.now macros.now.list.firsts.now macros.now.list.count loose.now (body_in macros.now.list.coded.text.now macros.now.list.coded.code.now q) result }
+    ensures { Loose macros.now.list.coded.text.now macros.now.list.coded.code.now macros.now.list.firsts.now (length macros.now.list.firsts.now) loose.now (body_in macros.now.list.coded.text.now macros.now.list.coded.code.now q) result }
 {
-    let coded = &macros.list.coded;
-    let mut i = first_change(coded, q);
     let mut height = LEVELS;
-    for _k in 0..coded.low(q + CodePlaces::COUNTS) {
+    for i in macros.list.coded.changes(q) {
         height = height.min(loose_change(macros, loose, i));
-        i += change_size(coded, i);
     }
     height
 }
@@ -138,28 +119,29 @@ fn settle(row: &mut [u8], k: usize, height: usize, level: usize)
     }
 }
 
-// The macros of the height `level`, where those below it are known: `height_of` gives that of one macro, by those of others.
-fn settle_level<F: Fn(&[u8], usize) -> usize>(
+// The macros of the height `level`, where those below it are known: `height_of` gives that of one macro, by its first cell and the heights of others.
+fn settle_level<F: Fn(&[u8], u16) -> usize>(
     row: &mut [u8],
-    count: usize,
+    firsts: &[u16],
     level: usize,
     height_of: F,
 )
     ghost table: { ℕ → ℕ → Bool }
     requires low { level < levels }
-    requires below { UpTo table count level row.old }
+    requires below { UpTo table (length firsts.now) level row.old }
     requires rises { Rises table }
     requires callable { F.IsAlwaysCallable height_of }
-    requires gives { (r : _) (k h : ℕ) → F.post height_of r k h → HeightAt table count level r.now k h }
-    ensures { UpTo table count (level + 1) row.new }
+    requires gives { (r : _) (k h : ℕ) → F.post height_of r (get_or firsts.now k 0) h → HeightAt table (length firsts.now) level r.now k h }
+    ensures { UpTo table (length firsts.now) (level + 1) row.new }
 {
-    for k in 0..count {
-        let height = height_of(row, k);
+    for (k, first) in firsts.iter().enumerate() {
+        let height = height_of(row, *first);
         settle(row, k, height, level);
     }
 }
 
-// The heights of both kinds, in two rows of lent memory.
+// The heights of both kinds, in two rows of lent memory. A macro without a height has the number of levels, which is the greatest height and no mark
+// beside them: `min`, `max` and `<` go by it.
 pub fn find_heights(
     list: &Listed,
     singles: &[u8],
@@ -167,23 +149,23 @@ pub fn find_heights(
     quiet: &mut [u8],
     loose: &mut [u8],
 )
-    requires { Findable list.now.coded.text.now list.now.coded.code.now list.now.firsts.now list.now.count singles.now quiet.old loose.old }
-    ensures { Heights list.now.coded.text.now list.now.coded.code.now list.now.firsts.now list.now.count quiet.new loose.new }
+    requires { Findable list.now.coded.text.now list.now.coded.code.now list.now.firsts.now (length list.now.firsts.now) singles.now quiet.old loose.old }
+    ensures { Heights list.now.coded.text.now list.now.coded.code.now list.now.firsts.now (length list.now.firsts.now) quiet.new loose.new }
 {
     let macros = Hinted {
         list: *list,
         singles,
         hints,
     };
-    let count = list.count;
+    let count = list.firsts.len();
     quiet[..count].fill(LEVELS as u8);
     loose[..count].fill(LEVELS as u8);
     for level in 0..LEVELS {
-        settle_level(quiet, count, level, |row, k| {
-            quiet_body(&macros, row, number_at(macros.list.firsts, k))
+        settle_level(quiet, list.firsts, level, |row, first| {
+            quiet_body(&macros, row, usize::from(first))
         });
-        settle_level(loose, count, level, |row, k| {
-            loose_body(&macros, row, number_at(macros.list.firsts, k))
+        settle_level(loose, list.firsts, level, |row, first| {
+            loose_body(&macros, row, usize::from(first))
         });
     }
 }

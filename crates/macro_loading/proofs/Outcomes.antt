@@ -16,8 +16,11 @@ use Rattle.language.specs.Program.{Program}
 use Rattle.layout.specs.Table.{table_cells}
 use Rattle.loading.specs.Texts.{Lent, Leaves, Fit}
 use Rattle.loading.specs.Told.{Loaded, told}
+use Rattle.loading.specs.ToldLaws.{numbered-ok}
 use Rattle.macro_preparing.specs.Preparing.{made, Prepares}
-use Rattle.macro_preparing.specs.declared.Unfit.{Unfit}
+use Rattle.statements.specs.Questions.{question_number}
+use Rattle.statements.specs.declared.Question.TheVariants as code
+use Rattle.statements.specs.declared.Rejected.{Rejected}
 use Rattle.std.specs.Prelude.{Result, Ok, Err, is_ok}
 use Rattle.macros.specs.Load.{loaded, load_in}
 use Rattle.macros.proofs.LoadLaws.{load-asked, plain-loads, prepared-lined, accepted-plain}
@@ -67,7 +70,7 @@ beyond-only (accepted p) h c d e = ap (λ (x : List ℕ). table_cells p ++ x) e
 module _ (s c : List ℕ) where
   -- "Table long enough, text short enough? 40"; "After 40 the table stays"
   abbrev unasked : Loaded
-  unasked = Err (record { number = 40; line = 0 })
+  unasked = Err (record { question = code.Size; line = 0 })
 
   no-load : load_in (length c) s ≡ refused 40 0 → Loads s c unasked c
   unfolding table_after
@@ -121,12 +124,12 @@ module _ {s c : List ℕ} (f : Fit s c) where
     -- and there is none in a text that is accepted as it stands
     pub loads-accepted : is_ok r ≡ true → Loads s c r d
     loads-accepted h =
-        let a = told-accepted (load_typed s) (ap is_ok (sym k.is) ∙ h) in
+        let a = told-accepted (load_typed s) (ap is_ok (sym k.is) ∙ numbered-ok r ∙ h) in
         loads-plain (accepted-plain s (lines_of s) (last_place s) a.0 a.1)
 
     module _ (not_ok : is_ok r ≡ false) where
       zeros-left : d ≡ replicate limit.table 0 ++ drop limit.table c
-      zeros-left = k.cells_are ∙ refused-zeros (load_typed s) typed-listed (ap is_ok (sym k.is) ∙ not_ok) c
+      zeros-left = k.cells_are ∙ refused-zeros (load_typed s) typed-listed (ap is_ok (sym k.is) ∙ numbered-ok r ∙ not_ok) c
 
       beyond-left : drop limit.table d ≡ drop limit.table c
       beyond-left = ap (drop limit.table) zeros-left ∙ zeros-dropped limit.table (drop limit.table c)
@@ -149,19 +152,19 @@ module _ {s c : List ℕ} (f : Fit s c) where
 
 -- ---- a text with macros
 
-module _ {s c : List ℕ} (h : Rewritable s c) {p : Result ℕ Unfit} {o ls ms : List ℕ} (k : Prepares s p o ls ms) where
+module _ {s c : List ℕ} (h : Rewritable s c) {p : Result ℕ Rejected} {o ls ms : List ℕ} (k : Prepares s p o ls ms) where
   -- not made ready: the table is zeros already
-  pub unfit-leaves : (u : Unfit) → p ≡ Err u → Leaves (loaded (prepared s)) c (Err (record { number = u.number; line = u.line })) c
+  pub unfit-leaves : (u : Rejected) → p ≡ Err u → Leaves (loaded (prepared s)) c (Err u) c
   unfolding loaded
   unfit-leaves u e =
-      let q : prepared s ≡ unfit u.number u.line = sym k.is ∙ ap (λ t. made t o ls) e in
-      let a : loaded (prepared s) ≡ refused u.number u.line = ap loaded q in
+      let q : prepared s ≡ unfit (question_number u.question) u.line = sym k.is ∙ ap (λ t. made t o ls) e in
+      let a : loaded (prepared s) ≡ refused (question_number u.question) u.line = ap loaded q in
       record {
         is = sym (ap told a);
         cells_are =
             sym (take-append-drop limit.table c)
             ∙ ap (λ (x : List ℕ). x ++ drop limit.table c) h.zeros
-            ∙ sym (ap (λ t. table_after t c) a ∙ zeros-after u.number u.line (listed-not_40 (loaded (prepared s)) (loaded-listed s h.fit.short) u.number u.line a) c);
+            ∙ sym (ap (λ t. table_after t c) a ∙ zeros-after (question_number u.question) u.line (listed-not_40 (loaded (prepared s)) (loaded-listed s h.fit.short) (question_number u.question) u.line a) c);
       }
 
   module _ (n : ℕ) (e : p ≡ Ok n) where

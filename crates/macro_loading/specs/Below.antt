@@ -1,3 +1,3 @@
 -- Modules of the crates below, passed on to those above. Declares nothing.
 pub use Rattle.loading.specs.Told
-pub use Rattle.loading.specs.declared.Rejected
+pub use Rattle.loading.specs.ToldLaws

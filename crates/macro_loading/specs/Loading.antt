@@ -3,13 +3,13 @@ use Rattle.std.specs.Prelude.{◌≡◌, true, List, ℕ, length, take, replicat
 use Rattle.calls.specs.Calls.{table_after}
 use Rattle.language.specs.Limits as limit
 use Rattle.loading.specs.Texts.{Fit}
-use Rattle.loading.specs.Told.{Loaded, told}
+use Rattle.loading.specs.Told.{Loaded, numbered, told}
 use Rattle.macros.specs.Load.{load_in}
 use Rattle.macros.specs.Marks.{has_macros}
 
 -- s are the bytes of the text, c and d the table's cells before and after
 pub record Loads (s c : List ℕ) (r : Loaded) (d : List ℕ) : Type 0 where
-  pub is : r ≡ told (load_in (length c) s)
+  pub is : numbered r ≡ told (load_in (length c) s)
   pub cells_are : d ≡ table_after (load_in (length c) s) c
 
 -- a text with macros, on cells that are zeros as far as a table reaches

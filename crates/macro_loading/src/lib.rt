@@ -7,8 +7,9 @@ ghost use Rattle.macros.specs.Load.{loaded};
 ghost use Rattle.macros.specs.Prepared.{prepared};
 
 use language::Machine;
-use loading::{Loaded, Rejected};
+use loading::Loaded;
 use macro_code::CodePlaces;
+use statements::{Question, Rejected};
 
 // A text with macros: its written-out text is loaded, with the lines of the given one. The table's cells are zeros. The row of cells serves for
 // names again.
@@ -19,17 +20,9 @@ fn load_written(text: &[u8], table: &mut [u32]) -> Loaded
     let mut out = [0u8; Machine::TEXT];
     let mut lines = [0u16; Machine::TEXT];
     let mut code = [0u32; CodePlaces::CELLS];
-    // No `?`: the refusals of `macro_preparing` have a type of its own, and `From` would stand in a crate that has neither.
-    match macro_preparing::prepare(text, &mut out, &mut lines, &mut code) {
-        Err(unfit) => Err(Rejected {
-            number: unfit.number,
-            line: unfit.line,
-        }),
-        Ok(n) => {
-            let names = &mut code[..Machine::TEXT];
-            loading::load_lined(&out[..n], &lines[..n], names, table)
-        }
-    }
+    let n = macro_preparing::prepare(text, &mut out, &mut lines, &mut code)?;
+    let names = &mut code[..Machine::TEXT];
+    loading::load_lined(&out[..n], &lines[..n], names, table)
 }
 
 // Most texts have no macros, and one with macros is refused as it stands: so macros are sought in a refused text alone.
@@ -38,7 +31,7 @@ pub fn load(text: &[u8], table: &mut [u32]) -> Loaded
 {
     if (table.len() < Machine::TABLE) | (Machine::TEXT < text.len()) {
         return Err(Rejected {
-            number: 40,
+            question: Question::Size,
             line: 0,
         });
     }

@@ -4,7 +4,6 @@
 ghost use Rattle.std.specs.Prelude.{◌≡◌, ◌&&◌, ◌≤◌, length, position};
 ghost use Rattle.lexer.specs.Tokens.{chars_of, Stands};
 ghost use Rattle.lists.specs.Lists.{ahead, any, among, bytes_equal};
-ghost use Rattle.lists.specs.Quoted.{bytes};
 ghost use Rattle.macros.specs.Marks.{byte_at, has_macros, marked};
 ghost use Rattle.scanner.specs.Sorts.{sort_in};
 ghost use Rattle.syntax.specs.Items.{same_sort};
@@ -28,24 +27,17 @@ enum ListPart {
 }
 
 // The byte at a place; past the end a line feed.
-// One line of std, as in `macro_elements`, which does not name this crate.
 pub fn byte_at(text: &[u8], p: usize) -> u8
     ensures { result ≡ byte_at text.now p }
 {
     text.get(p).copied().unwrap_or(b'\n')
 }
 
-fn is_star_or_bracket(b: u8) -> bool
-    ensures { result ≡ among b (bytes "*()") }
-{
-    b"*()".contains(&b)
-}
-
 // Whether a byte may begin a text, a comment, or an item of macros.
 fn may_begin(b: u8) -> bool
     ensures { result ≡ begins_mark b }
 {
-    b == b'\'' || b == b'/' || is_star_or_bracket(b)
+    b == b'\'' || b == b'/' || b"*()".contains(&b)
 }
 
 fn first_mark(text: &[u8]) -> Option<usize>
@@ -70,11 +62,11 @@ fn plain_end(text: &[u8], n: usize) -> usize
     n + ordinary(&text[n..])
 }
 
-// Whether an item that begins with the byte `b` is a star or a round bracket of macros.
-fn is_mark(t: Token, b: u8) -> bool
-    ensures { result ≡ same_sort wrong (sort_in t.sort) && among b (bytes "*()") }
+// Whether an item that begins with the byte `b` is one of these marks of macros.
+pub fn is_mark(t: Token, b: u8, marks: &[u8]) -> bool
+    ensures { result ≡ same_sort wrong (sort_in t.sort) && among b marks.now }
 {
-    t.is(Sort::Wrong) && is_star_or_bracket(b)
+    t.is(Sort::Wrong) && marks.contains(&b)
 }
 
 // The next item from place `n` on, if there is one.
@@ -92,7 +84,7 @@ pub fn has_macros(text: &[u8]) -> bool
 {
     let mut n: usize = 0;
     while let Some(t) = next_item(text, plain_end(text, n)) {
-        if is_mark(t, byte_at(text, t.at)) {
+        if is_mark(t, byte_at(text, t.at), b"*()") {
             return true;
         }
         n = t.next;
@@ -156,13 +148,6 @@ fn part_behind(p: ListPart, t: Token, b: u8) -> ListPart
     }
 }
 
-// Whether an item that begins with the byte `b` ends a header.
-fn ends_header(t: Token, b: u8) -> bool
-    ensures { result ≡ same_sort wrong (sort_in t.sort) && among b (bytes "()") }
-{
-    t.is(Sort::Wrong) && b"()".contains(&b)
-}
-
 // Whether a token is this name.
 fn is_word(text: &[u8], t: Token, name: &[u8]) -> bool
     requires { Stands text.now t }
@@ -179,7 +164,7 @@ fn is_parameter(text: &[u8], header: usize, name: &[u8]) -> bool
     let mut named = false;
     let mut n = header;
     while let Some(t) = next_item(text, n) {
-        if ends_header(t, byte_at(text, t.at)) {
+        if is_mark(t, byte_at(text, t.at), b"()") {
             return false;
         }
         if named && is_word(text, t, name) {

@@ -1,6 +1,6 @@
 -- Calls that change nothing any more, in slots, each with the levels left around a call, or 0, the cell of its macro, and the cells of the calls around
 -- it and of the call itself.
-use Rattle.std.specs.Prelude.{◌≡◌, false, List, [], map, ℕ, ◌+◌, ◌-◌, ◌≤◌, ◌<◌, length, get_or}
+use Rattle.std.specs.Prelude.{◌≡◌, false, List, [], map, ℕ, ◌+◌, ◌-◌, ◌≤◌, ◌<◌, get_or}
 use Rattle.macros.specs.Expansion.{Writing, places_of, filled_in, expand, levels}
 use Rattle.macro_code.specs.Code.{call_in, body_in, macros_in, arguments_in}
 use Rattle.macro_code.specs.Places.{half}
@@ -46,12 +46,11 @@ pub record Remembers (s c f : List ℕ) (n : ℕ) (slots : List Slot) (v : Writt
   pub absorbed : (k : ℕ) → ((slot_at slots k).left ≡ 0 → ⊥) → Absorbed (slot_writes s c f n (slot_at slots k)) v
 
 -- a call that can be looked up
-pub record Lookable (at : Entered) (here : Around) (row : List ℕ) : Type 0 where
+pub record Lookable (at : Entered) (here : Around) : Type 0 where
   pub near : at.cell < reach
   pub some : 1 ≤ at.left
   pub levels_are : at.left + here.depth ≡ levels
   pub body : at.body < half
-  pub short : length row < half
 
 -- the arguments of two calls, within as many nested calls, are the same
 abbrev pub Alike : List ℕ → List ℕ → List ℕ → List ℕ → ℕ → ℕ → ℕ → Type 0

@@ -1,19 +1,16 @@
 // Calls that change nothing any more, remembered beside the cells of the nested calls.
 #![tactic(auto)]
 
-ghost use Rattle.std.specs.Prelude.{◌≡◌, true, List, ℕ, ◌≤◌, ◌<◌, length};
+ghost use Rattle.std.specs.Prelude.{◌≡◌, true, List, ℕ, ◌+◌, ◌-◌, ◌≤◌, ◌<◌};
 ghost use Rattle.macro_values.specs.declared.Written.{Written};
-ghost use Rattle.macro_code.specs.Bounds.{far};
+ghost use Rattle.macro_code.specs.Bounds.{near, far};
 ghost use Rattle.macro_code.specs.Code.{given_in, arguments_in};
 ghost use Rattle.macro_code.specs.Places.{half};
 ghost use Rattle.macros.specs.Expansion.{filled_in, levels};
 ghost use Rattle.macro_memory.specs.Memory.{reach, Lookable, Like, Alike, Found, Remembers, Stored};
 
-use macro_code::{CodePlaces, Coded};
+use macro_code::{CodePlaces, Coded, LEVELS};
 use macro_values::{Around, Written, argument_cell, cell_at};
-
-// "From level 1 to 16 at most".
-pub const LEVELS: usize = 16;
 
 // How many calls are remembered at most.
 const SLOTS: usize = 128;
@@ -29,7 +26,7 @@ const SHARE: usize = 4096;
 const ROOM: usize = 128;
 
 // A call that is remembered: the levels left around it, 0 in a slot that is free; the cell of its macro; and the calls around it with itself.
-#[derive(Clone, Copy)]
+#[derive(Clone, Copy, Debug, PartialEq, Eq)]
 pub struct Slot {
     pub left: usize,
     pub body: usize,
@@ -47,14 +44,21 @@ pub struct Memory {
 }
 
 // Two calls, or an argument of each.
-#[derive(Clone, Copy)]
+#[derive(Clone, Copy, Debug, PartialEq, Eq)]
 struct Pair {
     one: usize,
     other: usize,
 }
 
+// A macro, the section or a change: its cell; and how many levels are left there.
+#[derive(Clone, Copy, Debug, PartialEq, Eq)]
+pub struct Level {
+    pub cell: usize,
+    pub left: usize,
+}
+
 // A call: its cell; how many levels are left around it; and the cell of its macro.
-#[derive(Clone, Copy)]
+#[derive(Clone, Copy, Debug, PartialEq, Eq)]
 pub struct Entered {
     pub cell: usize,
     pub left: usize,
@@ -62,16 +66,17 @@ pub struct Entered {
 }
 
 // Whether two arguments, the other one within other calls, stand for the same bytes. Those that have no room are taken for different ones.
-fn same_given(here: &Around, others: &[u32], pair: Pair, row: &mut [u8]) -> bool
-    requires { (pair.one < far) × (pair.other < far) × (length row.old < half) }
+fn same_given(here: &Around, others: &[u32], pair: Pair) -> bool
+    requires { (pair.one < far) × (pair.other < far) }
     ensures { result ≡ true → filled_in (arguments_in here.now.coded.text.now here.now.coded.code.now here.now.calls.now here.now.depth) (given_in here.now.coded.text.now here.now.coded.code.now pair.one) ≡ filled_in (arguments_in here.now.coded.text.now here.now.coded.code.now others.now here.now.depth) (given_in here.now.coded.text.now here.now.coded.code.now pair.other) }
 {
     let there = Around {
         calls: others,
         ..*here
     };
-    let first = here.write_given(pair.one, row, Written::nothing());
-    let both = there.write_given(pair.other, row, first);
+    let mut row = [0u8; ROOM];
+    let first = here.write_given(pair.one, &mut row, Written::nothing());
+    let both = there.write_given(pair.other, &mut row, first);
     let Some(n) = first.count else { return false };
     let Some(end) = both.count else { return false };
     let written = &row[..end];
@@ -79,24 +84,21 @@ fn same_given(here: &Around, others: &[u32], pair: Pair, row: &mut [u8]) -> bool
 }
 
 // Whether two calls, the other one within other calls, have the same arguments.
-fn same_arguments(here: &Around, others: &[u32], pair: Pair, row: &mut [u8]) -> bool
-    requires { (pair.one < reach) × (pair.other < reach) × (length row.old < half) }
+fn same_arguments(here: &Around, others: &[u32], pair: Pair) -> bool
+    requires { (pair.one < reach) × (pair.other < reach) }
     ensures { result ≡ true → Alike here.now.coded.text.now here.now.coded.code.now here.now.calls.now others.now here.now.depth pair.one pair.other }
 {
     let n = here.coded.low(pair.one + CodePlaces::KIND);
     if n != here.coded.low(pair.other + CodePlaces::KIND) {
         return false;
     }
-    for k in 0..n {
+    (0..n).all(|k| {
         let given = Pair {
             one: argument_cell(pair.one, k),
             other: argument_cell(pair.other, k),
         };
-        if !same_given(here, others, given, row) {
-            return false;
-        }
-    }
-    true
+        same_given(here, others, given)
+    })
 }
 
 // A number by some bytes, from a first number on.
@@ -110,15 +112,16 @@ fn mix(bytes: &[u8], first: usize) -> usize
     h
 }
 
-// A number of a call, by its macro, its levels and as much of its arguments as the row has room for.
-fn print_of(here: &Around, row: &mut [u8], at: Entered) -> usize
-    requires { Lookable at here.now row.old }
+// A number of a call, by its macro, its levels and as much of its arguments as there is room for.
+fn print_of(here: &Around, at: Entered) -> usize
+    requires { Lookable at here.now }
     ensures { result < half }
 {
+    let mut row = [0u8; ROOM];
     let mut w = Written::nothing();
     let mut n = 0;
     for k in 0..here.coded.low(at.cell + CodePlaces::KIND) {
-        w = here.write_given(argument_cell(at.cell, k), row, w);
+        w = here.write_given(argument_cell(at.cell, k), &mut row, w);
         n = w.count.unwrap_or(n);
     }
     mix(&row[..n], at.body * 16 + here.depth)
@@ -126,21 +129,18 @@ fn print_of(here: &Around, row: &mut [u8], at: Entered) -> usize
 
 impl Slot {
     // Whether it has a call of the same macro, levels and arguments.
-    fn is_like(&self, here: &Around, row: &mut [u8], at: Entered) -> bool
-        requires { Lookable at here.now row.old }
+    fn is_like(&self, here: &Around, at: Entered) -> bool
+        requires { Lookable at here.now }
         ensures { result ≡ true → Like here.now.coded.text.now here.now.coded.code.now here.now.calls.now at self.now }
     {
-        if self.left != at.left {
-            return false;
-        }
-        if self.body != at.body {
+        if self.left != at.left || self.body != at.body {
             return false;
         }
         let pair = Pair {
             one: at.cell,
             other: cell_at(&self.calls, here.depth),
         };
-        same_arguments(here, &self.calls, pair, row)
+        same_arguments(here, &self.calls, pair)
     }
 }
 
@@ -162,19 +162,26 @@ impl Memory {
         }
     }
 
+    // The nested calls around a call that has so many levels left around it.
+    pub fn around<'a, 'b>(&'b self, coded: &Coded<'a>, left: usize) -> Around<'a, 'b>
+        requires { left ≤ levels }
+        ensures { (result.coded ≡ coded.now) × (result.calls.now ≡ self.now.calls) × (result.depth ≡ levels - left) }
+    {
+        Around {
+            coded: *coded,
+            calls: &self.calls,
+            depth: LEVELS - left,
+        }
+    }
+
     // Whether a slot of its group has a call. A slot with another number is passed over.
-    fn look(&self, here: &Around, row: &mut [u8], at: Entered) -> bool
-        requires { Lookable at here.now row.old }
+    fn look(&self, here: &Around, at: Entered) -> bool
+        requires { Lookable at here.now }
         ensures { result ≡ true → Found here.now.coded.text.now here.now.coded.code.now self.now.slots here.now.calls.now at.left at.cell at.body }
     {
-        let print = print_of(here, row, at);
+        let print = print_of(here, at);
         let first = GROUP * (print / SHARE);
-        for k in first..first + GROUP {
-            if self.prints[k] == print && self.slots[k].is_like(here, row, at) {
-                return true;
-            }
-        }
-        false
+        (first..first + GROUP).any(|k| self.prints[k] == print && self.slots[k].is_like(here, at))
     }
 
     // Whether a call within the nested calls is remembered.
@@ -182,53 +189,45 @@ impl Memory {
         requires { (at.cell < reach) × (1 ≤ at.left) × (at.left ≤ levels) × (at.body < half) }
         ensures { result ≡ true → Found coded.now.text.now coded.now.code.now self.now.slots self.now.calls at.left at.cell at.body }
     {
-        let here = Around {
-            coded: *coded,
-            calls: &self.calls,
-            depth: LEVELS - at.left,
-        };
-        self.look(&here, &mut [0u8; ROOM], at)
+        self.look(&self.around(coded, at.left), at)
     }
 
     // Puts the innermost of the nested calls into its group, in place of the one that came first.
-    fn store(&mut self, left: usize, body: usize, print: usize)
-        requires { (1 ≤ left) × (print < half) }
-        ensures { Stored self.old self.new left body }
+    fn store(&mut self, at: Entered, print: usize)
+        requires { (1 ≤ at.left) × (print < half) }
+        ensures { Stored self.old self.new at.left at.body }
     {
         let group = print / SHARE;
         let turn = self.turns[group] % GROUP;
         let k = GROUP * group + turn;
-        let calls = self.calls;
-        self.slots[k] = Slot { left, body, calls };
+        self.slots[k] = Slot {
+            left: at.left,
+            body: at.body,
+            calls: self.calls,
+        };
         self.turns[group] = turn + 1;
         self.prints[k] = print;
     }
 
-    // The number of the innermost of the nested calls.
-    fn innermost_print(&self, coded: &Coded, left: usize, body: usize) -> usize
-        requires { (1 ≤ left) × (left ≤ levels) × (body < half) }
-        ensures { result < half }
+    // The innermost of the nested calls, by the body of its macro.
+    fn innermost(&self, body: Level) -> Entered
+        requires { body.left < levels }
+        ensures { (result.cell < near) × (result.left ≡ body.left + 1) × (result.body ≡ body.cell) }
     {
-        let depth = LEVELS - left;
-        let at = Entered {
-            cell: cell_at(&self.calls, depth),
-            left,
-            body,
-        };
-        let here = Around {
-            coded: *coded,
-            calls: &self.calls,
-            depth,
-        };
-        print_of(&here, &mut [0u8; ROOM], at)
+        Entered {
+            cell: cell_at(&self.calls, LEVELS - body.left - 1),
+            left: body.left + 1,
+            body: body.cell,
+        }
     }
 
-    // Remembers the innermost of the nested calls, with so many levels left around it, and the cell of its macro.
-    pub fn remember(&mut self, coded: &Coded, left: usize, body: usize)
-        requires { (1 ≤ left) × (left ≤ levels) × (body < half) }
-        ensures { Stored self.old self.new left body }
+    // Remembers the innermost of the nested calls, by the body of its macro.
+    pub fn remember(&mut self, coded: &Coded, body: Level)
+        requires { (body.left < levels) × (body.cell < half) }
+        ensures { Stored self.old self.new (body.left + 1) body.cell }
     {
-        let print = self.innermost_print(coded, left, body);
-        self.store(left, body, print);
+        let at = self.innermost(body);
+        let print = print_of(&self.around(coded, at.left), at);
+        self.store(at, print);
     }
 }

@@ -6,6 +6,8 @@ use Prim.Native.Nat.{ℕ, ◌+◌, ◌≤◌}
 use native.Mathlib.Omega.{arith}
 use lib.Dec.{ltb}
 use lib.ListN.{length, take, drop}
+use Rattle.std.proofs.Math.Seq.{take-append_seam}
+use Rattle.std.proofs.lemmas.List.{length-map, length-take-le}
 use borrow.Author.Tests.{le-ltb}
 use Rattle.language.specs.Limits as limit
 use Rattle.lists.specs.Lists.{each}
@@ -21,6 +23,7 @@ use Rattle.macros.specs.Prepared.{writes, deep_places, listed, section_of, bytes
 use Rattle.macros.proofs.ShapeLaws.{places-rise, prepared-shape}
 use Rattle.macros.proofs.WrittenLaws.{written-at-once}
 use Rattle.macro_code.specs.Places as place
+use Rattle.macro_lines.specs.Lines.{Placed}
 use Rattle.macro_section.specs.Origins.{none, Sectioned}
 use Rattle.macro_section.specs.declared.WrittenOut.{WrittenOut}
 use Rattle.macro_values.specs.Wrote.{is_over, size_of, Wrote}
@@ -30,11 +33,12 @@ use Rattle.statements.specs.StatementAt.{fault_of}
 use Rattle.statements.specs.Faults as told
 use Rattle.syntax.specs.Items.{line_of}
 use Rattle.syntax.specs.Verdict.{Verdict, first_no}
-use Rattle.syntax.specs.Verdict.Verdict.{yes, refuse}
+use Rattle.syntax.specs.Verdict.Verdict.{yes}
 use Rattle.macro_preparing.specs.QuestionLaws.{asked}
 use Rattle.macro_preparing.specs.Preparing.{made, Preparable, Prepares}
-use Rattle.macro_preparing.specs.Rows.{Passed, RowsRead, Expanded, Refused, Places, Lines}
-use Rattle.macro_preparing.specs.declared.Unfit.{Unfit}
+use Rattle.macro_preparing.specs.Rows.{firsts_of, first_question, RowsRead, Expanded, Refused}
+use Rattle.statements.specs.Questions.{question_number}
+use Rattle.statements.specs.declared.Rejected.{Rejected}
 use Rattle.macro_preparing.specs.declared.Reading.{Reading}
 
 -- ---- a call that is too deep
@@ -79,26 +83,28 @@ module _ (ms : List Macro) where
 -- ---- a text with macros
 
 module _ (s : List ℕ) (h : has_macros s ≡ true) where
-  pub prepared-with : prepared s ≡ unless_unfit s (then (first_no (whole_questions s)) (first_no (macro_questions s))) (written_out s)
+  pub prepared-with : prepared s ≡ unless_unfit s (first_question s) (written_out s)
   unfolding prepared
-  prepared-with = rw h (ap (λ (v : Verdict). unless_unfit s v (written_out s)) (first_no-both (whole_questions s) (macro_questions s)))
+  prepared-with = rw h refl
 
-  pub prepared-whole : first_no (whole_questions s) ≡ yes → prepared s ≡ unless_unfit s (first_no (macro_questions s)) (written_out s)
-  prepared-whole w = prepared-with ∙ ap (λ (v : Verdict). unless_unfit s (then v (first_no (macro_questions s))) (written_out s)) w
-
-  pub prepared-unfit : {number at : ℕ} → refuse number at ≡ first_no (whole_questions s) → unless_unfit s (refuse number at) (written_out s) ≡ prepared s
-  prepared-unfit e = sym (prepared-with ∙ ap (λ (v : Verdict). unless_unfit s (then v (first_no (macro_questions s))) (written_out s)) (sym e))
-
-  bytes_fit : length s ≤ limit.text → first_no (whole_questions s) ≡ yes → first_no (macro_questions s) ≡ yes → length (bytes_out s) ≤ limit.text
+  bytes_fit : length s ≤ limit.text → first_question s ≡ yes → length (bytes_out s) ≤ limit.text
   unfolding unless_unfit written_out
-  bytes_fit l w q =
+  bytes_fit l q =
       (prepared-shape s (bytes_out s) (map (line_of s) (places_out s)) l
-      (prepared-whole w ∙ ap (λ (v : Verdict). unless_unfit s v (written_out s)) q)).short
+      (prepared-with ∙ ap (λ (v : Verdict). unless_unfit s v (written_out s)) q)).short
 
 -- ---- the section
 
-module _ {s c f h : List ℕ} {r : Reading} (y : RowsRead s c f h r) {w : WrittenOut} {o p m : List ℕ} (z : Sectioned s c f r.count r.section w o p m)
-    (room : length o ≡ limit.text) where
+-- 14 to 16 are asked before 64 to 66
+either-asked : (s : List ℕ) → first_question s ≡ then (first_no (whole_questions s)) (first_no (macro_questions s))
+either-asked s = first_no-both (whole_questions s) (macro_questions s)
+
+pub whole_asked : {s : List ℕ} (v : told.Verdict) → verdict_of v ≡ first_no (whole_questions s) → {u : Rejected} → Refused s (verdict_of v) u → Refused s (first_question s) u
+whole_asked {s} v w f =
+    record { at = f.at; is = either-asked s ∙ ap (λ (q : Verdict). then q (first_no (macro_questions s))) (sym w ∙ f.is); line_is = f.line_is }
+
+module _ {s c f quiet loose alone : List ℕ} {r : Reading} (y : RowsRead s c f quiet loose alone r) {w : WrittenOut} {o p m : List ℕ}
+    (z : Sectioned s c (firsts_of f r) (length (firsts_of f r)) r.listing.section w o p m) (room : length o ≡ limit.text) where
   wrote-there : Wrote (expand (listed s) levels [] (section_of s)) none w.state o p
   wrote-there = rw (y.macros_are, y.section_is) at z.wrote
 
@@ -111,7 +117,7 @@ module _ {s c f h : List ℕ} {r : Reading} (y : RowsRead s c f h r) {w : Writte
   long-there = rw (y.macros_are, y.section_is, room) at z.long
 
   all_asked : (v : told.Verdict)
-      → verdict_of v ≡ then (decided 64 (lower r.form (lower r.typed.unknown w.state.unknown))) (then (decided 65 (lower r.typed.uneven w.state.uneven)) (decided 66 w.long))
+      → verdict_of v ≡ then (decided 64 (lower r.listing.fault (lower r.typed.unknown w.state.unknown))) (then (decided 65 (lower r.typed.uneven w.state.uneven)) (decided 66 w.long))
       → verdict_of v ≡ first_no (macro_questions s)
   all_asked v e = e ∙ asked s y.form_is y.typed_is wrote-there long-there
 
@@ -121,60 +127,57 @@ module _ {s c f h : List ℕ} {r : Reading} (y : RowsRead s c f h r) {w : Writte
       not-deep (listed s) (section_of s)
       (front-none (each (deep_places (listed s)) (section_of s)) (drop limit.text (places_out s)) (yes-at (macro_questions s) q 2))
 
-  module _ {o₀ : List ℕ} (x : Passed s o₀) where
+  module _ (macros : has_macros s ≡ true) (short : length s ≤ limit.text) (whole : first_no (whole_questions s) ≡ yes) where
+    macros-asked : first_question s ≡ first_no (macro_questions s)
+    macros-asked = either-asked s ∙ ap (λ (q : Verdict). then q (first_no (macro_questions s))) whole
+
     not-over : first_no (macro_questions s) ≡ yes → is_over w.state ≡ false
     not-over q =
-        let l : length (expand (listed s) levels [] (section_of s)).bytes ≤ limit.text = rw (written-at-once s) at (bytes_fit s x.macros x.row.short x.whole q) in
+        let l : length (expand (listed s) levels [] (section_of s)).bytes ≤ limit.text = rw (written-at-once s) at (bytes_fit s macros short (macros-asked ∙ q)) in
         wrote-there.over
         ∙ both_false (expand (listed s) levels [] (section_of s)).deep (ltb (length o) (0 + length (expand (listed s) levels [] (section_of s)).bytes))
         (none_deep q) (le-ltb (length o) (0 + length (expand (listed s) levels [] (section_of s)).bytes) (omega (arith, l, room)))
 
-    module _ (v : told.Verdict) (e : verdict_of v ≡ then (decided 64 (lower r.form (lower r.typed.unknown w.state.unknown))) (then (decided 65 (lower r.typed.uneven w.state.uneven)) (decided 66 w.long))) where
+    module _ (v : told.Verdict) (e : verdict_of v ≡ then (decided 64 (lower r.listing.fault (lower r.typed.unknown w.state.unknown))) (then (decided 65 (lower r.typed.uneven w.state.uneven)) (decided 66 w.long))) where
       pub expands : v ≡ Ok tt → Expanded s (size_of w.state) p m
       expands q =
           let y : first_no (macro_questions s) ≡ yes = sym (all_asked v e) ∙ ap verdict_of q in
           record {
             most = omega (arith, wrote-there.most, room);
-            yes_is = y;
+            yes_is = macros-asked ∙ y;
             bytes_are = (wrote-there.within (not-over y)).1 ∙ sym (written-at-once s);
             places_are = placed-there (not-over y);
           }
 
-      pub expands-not : {u : Unfit} → Refused s (verdict_of v) u → Refused s (first_no (macro_questions s)) u
-      expands-not f = rw (all_asked v e) at f
+      pub expands-not : {u : Rejected} → Refused s (verdict_of v) u → Refused s (first_question s) u
+      expands-not f = rw (all_asked v e ∙ sym macros-asked) at f
 
 -- ---- the answers
 
 module _ {s o ps : List ℕ} {n : ℕ} (x : Expanded s n o ps) where
-  pub in_order : length s ≤ limit.text → length ps ≡ limit.text → Places s ps n
-  in_order p l = record { short = p; room = omega (arith, x.most, l); rising = rw x.places_are (places-rise s) }
+  pub in_order : length s ≤ limit.text → Placed s (take n ps)
+  in_order p = record { short = p; rising = rw x.places_are (places-rise s) }
 
-  pub written-ready : {ls : List ℕ} → Lines s ps n ls → made (Ok n) o ls ≡ unless_unfit s (first_no (macro_questions s)) (written_out s)
+  -- the lines of the places stand where these stood
+  lines-there : {ls : List ℕ} → n ≤ length ps → ls ≡ map (line_of s) (take n ps) → take n (ls ++ drop n ps) ≡ ls
+  lines-there {ls} h e =
+      let size : length ls ≡ n = ap length e ∙ length-map (take n ps) (line_of s) ∙ length-take-le n ps h in
+      ap (λ (k : ℕ). take k (ls ++ drop n ps)) (sym size) ∙ take-append_seam ls (drop n ps)
+
+  pub written-ready : {ls : List ℕ} → n ≤ length ps → ls ≡ map (line_of s) (take n ps) → made (Ok n) o (ls ++ drop n ps) ≡ unless_unfit s (first_question s) (written_out s)
   unfolding unless_unfit written_out
-  written-ready l =
-      (λ i. ready (x.bytes_are i) ((l.are ∙ ap (map (line_of s)) x.places_are) i))
+  written-ready h l =
+      (λ i. ready (x.bytes_are i) ((lines-there h l ∙ l ∙ ap (map (line_of s)) x.places_are) i))
       ∙ ap (λ (q : Verdict). unless_unfit s q (written_out s)) (sym x.yes_is)
 
-pub written-unfit : {s : List ℕ} {v : Verdict} {u : Unfit} (o ls : List ℕ) → Refused s v u → made (Err u) o ls ≡ unless_unfit s v (written_out s)
+pub written-unfit : {s : List ℕ} {v : Verdict} {u : Rejected} (o ls : List ℕ) → Refused s v u → made (Err u) o ls ≡ unless_unfit s v (written_out s)
 unfolding unless_unfit
-written-unfit {s} {v} {u} o ls f = ap (unfit u.number) f.line_is ∙ ap (λ (q : Verdict). unless_unfit s q (written_out s)) (sym f.is)
+written-unfit {s} {v} {u} o ls f = ap (unfit (question_number u.question)) f.line_is ∙ ap (λ (q : Verdict). unless_unfit s q (written_out s)) (sym f.is)
 
-module _ {s o ls c : List ℕ} (p : Preparable s o ls c) (v : told.Verdict) (w : verdict_of v ≡ first_no (whole_questions s)) where
-  module _ {m ms d : List ℕ} (l : length m ≡ limit.text) (k : length ms ≡ limit.text) (j : length d ≡ place.cells) where
-    pub refuses-whole : {u : Unfit} → Refused s (verdict_of v) u → Prepares s (Err u) m ms d
-    refuses-whole {u} f =
-        record {
-          is = written-unfit m ms f ∙ ap (λ (q : Verdict). unless_unfit s q (written_out s)) f.is ∙ prepared-unfit s p.macros (sym f.is ∙ w);
-          fits = omega arith;
-          size = l;
-          lines_size = k;
-          code_size = j;
-        }
+module _ {s o ls c : List ℕ} (p : Preparable s o ls c) {m ms d : List ℕ} (l : length m ≡ limit.text) (k : length ms ≡ limit.text) (j : length d ≡ place.cells) where
+  pub refuses : {u : Rejected} → Refused s (first_question s) u → Prepares s (Err u) m ms d
+  refuses f = record { is = written-unfit m ms f ∙ sym (prepared-with s p.macros); fits = omega arith; size = l; lines_size = k; code_size = j }
 
-    pub refuses : {u : Unfit} → v ≡ Ok tt → Refused s (first_no (macro_questions s)) u → Prepares s (Err u) m ms d
-    refuses y f =
-        record { is = written-unfit m ms f ∙ sym (prepared-whole s p.macros (sym w ∙ ap verdict_of y)); fits = omega arith; size = l; lines_size = k; code_size = j }
-
-    pub prepares : {n : ℕ} {ps : List ℕ} → v ≡ Ok tt → Expanded s n m ps → Lines s ps n ms → Prepares s (Ok n) m ms d
-    prepares y x f =
-        record { is = written-ready x f ∙ sym (prepared-whole s p.macros (sym w ∙ ap verdict_of y)); fits = x.most; size = l; lines_size = k; code_size = j }
+  pub prepares : {n : ℕ} {ps ls : List ℕ} → Expanded s n m ps → n ≤ length ps → ls ≡ map (line_of s) (take n ps) → ms ≡ ls ++ drop n ps → Prepares s (Ok n) m ms d
+  prepares {n} x h f e =
+      record { is = ap (made (Ok n) m) e ∙ written-ready x h f ∙ sym (prepared-with s p.macros); fits = x.most; size = l; lines_size = k; code_size = j }

@@ -3,7 +3,8 @@ use mathlib.Core.Path.{◌≡◌, sym, ap, ◌∙◌}
 use mathlib.Core.List.{List, [], ◌∷◌, ◌++◌}
 use Prim.Native.Nat.{ℕ, ◌≤◌}
 use native.Mathlib.Omega.{arith}
-use lib.ListN.{length, get_or}
+use lib.ListN.{length, get_or, take}
+use lib.Seq.{length-take-le, get_or-take}
 use Rattle.language.specs.Limits as limit
 use Rattle.layout.proofs.CellLaws.{length-tab, get_d-tab}
 use Rattle.macros.specs.Elements.{elements}
@@ -14,10 +15,11 @@ use Rattle.macros.specs.Pieces.{Change, section_changes, pieces_from}
 use Rattle.macros.proofs.PlaceLaws.{elements-ascend}
 use Rattle.macros.specs.Prepared.{listed, section_of}
 use Rattle.macros.proofs.ShortLaws.{name-short}
-use Rattle.macro_calls.specs.Calls.{typed_in, Told, FirstsKept}
+use Rattle.macro_calls.specs.Calls.{typed_in, Told}
 use Rattle.macro_calls.specs.KeptLaws.{macros-kept}
 use Rattle.macro_calls.specs.declared.Faults.{Faults}
 use Rattle.macro_code.specs.Code.{macro_in, macros_in, body_in}
+use Rattle.macro_code.specs.Known.{Heights, Singles}
 use Rattle.macro_code.specs.Places as place
 use Rattle.macro_section.specs.Below.Known.{ShortNames}
 use Rattle.macro_reading.specs.Whole.{MacrosRead}
@@ -25,7 +27,7 @@ use Rattle.macro_reading.specs.declared.Listing.{Listing}
 use Rattle.macro_section.specs.Long.{Steady}
 use Rattle.syntax.specs.Verdict.{first_no}
 use Rattle.syntax.specs.Verdict.Verdict.{yes}
-use Rattle.macro_preparing.specs.Rows.{Tables, RowsRead}
+use Rattle.macro_preparing.specs.Rows.{RowsRead}
 
 -- changes in order
 steady-of : (lo hi : ℕ) (cs : List Change) → Ordered lo hi cs → Steady lo cs
@@ -41,31 +43,38 @@ names_short s c f n e w k l =
     let here : get_or (listed s) k (m k) ≡ m k = ap (λ (xs : List Macro). get_or xs k (m k)) (sym e) ∙ get_d-tab n m k (m k) l in
     rw here at (name-short s w k (m k) (omega (arith, many)))
 
-module _ {s c f : List ℕ} {r : Listing} (y : MacrosRead s c f r) {f' : List ℕ} (k : FirstsKept r.count f f') where
-  macros-now : macros_in s c f' r.count ≡ listed s
-  macros-now = macros-kept k s c ∙ y.macros_are
+module _ {s c f : List ℕ} {r : Listing} (y : MacrosRead s c f r) (l : place.macros ≤ length f) where
+  abbrev own : List ℕ
+  own = take r.count f
+
+  own-size : length own ≡ r.count
+  own-size = length-take-le r.count f (omega (arith, y.few))
+
+  macros-now : macros_in s c own (length own) ≡ listed s
+  macros-now = ap (macros_in s c own) own-size ∙ macros-kept (record { same = λ k h. get_or-take r.count f k 0 h }) s c ∙ y.macros_are
 
   section-now : body_in s c r.section ≡ section_of s
   unfolding body_in
   section-now = λ i. pieces_from s (y.cells.starts i) (y.cells.stops i) (y.cells.changes_are i)
 
-  pub rows-read : {h : List ℕ} {t : Faults} → length s ≤ limit.text → length c ≡ place.cells → first_no (whole_questions s) ≡ yes
-      → Told (typed_in s c f r.count r.section) t → Tables s c f' r.count h
-      → RowsRead s c f' h (record { count = r.count; section = r.section; form = r.fault; typed = t })
-  rows-read {h} {t} short size whole told tables =
+  pub rows-read : {quiet loose alone : List ℕ} {t : Faults} → length s ≤ limit.text → length c ≡ place.cells → first_no (whole_questions s) ≡ yes
+      → Told (typed_in s c own (length own) r.section) t → Heights s c own (length own) quiet loose → Singles s c own (length own) alone
+      → RowsRead s c f quiet loose alone (record { listing = r; typed = t })
+  rows-read {quiet} {loose} {alone} {t} short size whole told heights singles =
       record {
+        few = y.few;
         known = record {
           text = short;
           cells = omega (arith, size);
-          few = y.few;
-          names = names_short s c f' r.count macros-now whole;
-          heights = tables.heights;
-          singles = tables.singles;
+          few = omega (arith, own-size, y.few);
+          names = names_short s c own (length own) macros-now whole;
+          heights = heights;
+          singles = singles;
         };
         low = y.low;
         steady = rw (y.cells.starts, y.cells.changes_are) (steady-of 0 (length s) (list_change (length s) (elements s) ++ section_changes (length s) (section (elements s))) (list-ordered (length s) (elements s) (elements-ascend s)));
         macros_are = macros-now;
         section_is = section-now;
         form_is = y.fault_is;
-        typed_is = rw (y.macros_are, section-now) at told;
+        typed_is = rw (macros-now, section-now) at told;
       }

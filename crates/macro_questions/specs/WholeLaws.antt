@@ -1,4 +1,4 @@
--- The questions of a text with macros are those of its judged items, and the number of a judged token is that of its item.
+-- The questions of a text with macros are those of its judged items, and the verdict of a judged token is that of its item.
 use Rattle.std.specs.Prelude.{◌≡◌, Bool, true, false, cond, ◌&&◌, List, [], ◌∷◌, map, ℕ, suc, ◌+◌, length, Some}
 use Rattle.std.proofs.Math.Path.{refl}
 use Rattle.std.proofs.Common.{ap, sym, ◌∙◌}
@@ -9,8 +9,8 @@ use Rattle.lexer.specs.Tokens.{item_of, Stands}
 use Rattle.lists.specs.Lists.{among, filled, keep}
 use Rattle.lists.specs.Quoted.{bytes}
 use Rattle.macros.specs.Marks.{Reader, byte_at, items_in, marked_from, reader_after, whole_questions}
-use Rattle.statements.specs.Checks.{item_code, token_code}
-use Rattle.statements.specs.CheckLaws.{token-coded}
+use Rattle.statements.specs.Checks.{item_verdict, token_verdict}
+use Rattle.statements.specs.CheckLaws.{token-told}
 use Rattle.statements.specs.Groups.{bad_text, too_long, item_questions}
 use Rattle.scanner.specs.declared.Sort.{Sort}
 use Rattle.syntax.specs.Items as items
@@ -64,7 +64,7 @@ module _ (s : List ℕ) where
       let js = items_in s in
       rw (kept-judged (is wrong) (λ i. is wrong i && not (allowed i)) wrong-judged js, kept-judged bad_text bad_text text-judged js, kept-judged too_long too_long (λ i. refl) js) refl
 
--- ---- a token's number
+-- ---- a token's verdict
 
 module _ (s : List ℕ) {m : List ℕ} {t : Token} (h : Stands m t) where
   abbrev as_colon : Bool → Item
@@ -74,11 +74,11 @@ module _ (s : List ℕ) {m : List ℕ} {t : Token} (h : Stands m t) where
   token_as_colon a =
       record { sort = cond a (Some Sort.Colon) t.sort; at = t.at; end = t.end; next = t.next; len = t.len; good = t.good; colon = t.colon }
 
-  either-coded : (a : Bool) → token_code (token_as_colon a) ≡ item_code (as_colon a)
-  either-coded true = rw h.count refl
-  either-coded false = token-coded h
+  either-told : (a : Bool) → token_verdict (token_as_colon a) ≡ item_verdict (as_colon a)
+  either-told true = rw h.count refl
+  either-told false = token-told h
 
-  pub judged-coded : {b : ℕ} → b ≡ byte_at s t.at → token_code (judged_token t b) ≡ item_code (judged s (item_of m t))
-  judged-coded {b} e =
-      ap (λ (c : ℕ). token_code (judged_token t c)) e
-      ∙ either-coded (is wrong (item_of m t) && among (byte_at s t.at) (bytes "*()'"))
+  pub judged-told : {b : ℕ} → b ≡ byte_at s t.at → token_verdict (judged_token t b) ≡ item_verdict (judged s (item_of m t))
+  judged-told {b} e =
+      ap (λ (c : ℕ). token_verdict (judged_token t c)) e
+      ∙ either-told (is wrong (item_of m t) && among (byte_at s t.at) (bytes "*()'"))

@@ -3,6 +3,7 @@ use mathlib.Core.Path.{◌≡◌, refl, ap, sym, ◌∙◌, subst}
 use mathlib.Core.Bool.{Bool, true, false, cond, not, ◌&&◌, true≢false, false≢true}
 use mathlib.Core.List.{List, [], ◌∷◌, ◌++◌, map, append_assoc, append-nil}
 use Rattle.std.specs.Prelude.{Some, None}
+use Rattle.std.specs.Bool.{then_some}
 use Rattle.std.proofs.lemmas.Option.{none-some, same_Some}
 use Prim.Native.Nat.{ℕ, zero, suc, ◌+◌, ◌-◌, ◌≤◌, ◌<◌}
 use native.Mathlib.Nat.{le_refl}
@@ -62,12 +63,10 @@ tab-filled zero f = refl
 tab-filled (suc k) f = sym (lt-ltb 0 (suc k) (omega arith))
 
 -- an opening bracket, or none
-pub open-on : {s : List ℕ} {n : ℕ} {t : Element} → FirstElement s n t → is_open (argument_value s t) ≡ true → NextOpen s n (Some t)
-open-on {s} {n} {t} k h =
-    record { none = λ e. absurd (none-some t (sym e)); some = λ x e. subst (λ (u : Element). OpenAt s n u) (same_Some t x e) (record { first = k; opens = h }) }
-
-pub open-off : {s : List ℕ} {n : ℕ} {t : Element} → FirstElement s n t → is_open (argument_value s t) ≡ false → NextOpen s n None
-open-off k h = record { none = λ e. ap (λ (ts : List spec.Element). if_any false is_open ts) k.is ∙ h; some = λ x e. absurd (none-some x e) }
+pub open-if : {s : List ℕ} {n : ℕ} {t : Element} → FirstElement s n t → (b : Bool) → b ≡ is_open (argument_value s t) → NextOpen s n (then_some b t)
+open-if {s} {n} {t} k true h =
+    record { none = λ e. absurd (none-some t (sym e)); some = λ x e. subst (λ (u : Element). OpenAt s n u) (same_Some t x e) (record { first = k; opens = sym h }) }
+open-if k false h = record { none = λ e. ap (λ (ts : List spec.Element). if_any false is_open ts) k.is ∙ sym h; some = λ x e. absurd (none-some x e) }
 
 module _ {s m c : List ℕ} {n q : ℕ} (p : Definable s m c n q) where
   module _ {d : List ℕ} {h : Header} (g : HeaderRead s c d n q h) where

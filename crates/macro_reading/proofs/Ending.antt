@@ -22,15 +22,15 @@ use Rattle.macros.specs.Elements as spec
 use Rattle.macros.specs.Elements.{is_word, is_end, is_star, is_open, is_close, is_bracket, is_mark, places_in, until, from}
 use Rattle.macros.proofs.FaultLaws.{keep-both}
 use Rattle.macros.specs.Macros.{from_statement, header_faults}
-use Rattle.macro_changes.proofs.Giving.{lower-assoc, keep-first, neither, one-fault, first_forward}
+use Rattle.macro_changes.proofs.Giving.{lower-assoc, keep-first, neither, one-fault, first_forward, stretch-on, rest-on}
 use Rattle.macro_changes.proofs.Searching.{until-on, until-off, from_on, from-off}
-use Rattle.macro_elements.specs.ElementAt.{joined_at, elements_from, argument_value, Lent, FirstElement, NextElement}
+use Rattle.macro_elements.specs.ElementAt.{joined_at, elements_from, argument_value, Lent, FirstElement, FirstBefore, NextElement}
 use Rattle.macro_elements.specs.declared.Element.{Element}
 use Rattle.macro_reading.specs.Definitions.{stretch}
-use Rattle.macro_reading.specs.Headers.{FirstBefore, placed, heading, first_word, any_there, HeaderRead}
+use Rattle.macro_reading.specs.Headers.{placed, heading, first_word, any_there, HeaderRead}
 use Rattle.macro_reading.specs.Sections.{outer, outer_faults, Firsts, FirstRead, Tailed, tail_faults, TailRead}
 use Rattle.macro_reading.specs.declared.Header.{Header}
-use Rattle.macro_reading.proofs.Heading.{whole-from, stretch-on, rest-on}
+use Rattle.macro_reading.proofs.Heading.{whole-from}
 use Rattle.macro_reading.proofs.Stretching.{opened, Unopened, unopened, until-stretch, from-stretch, any_found}
 
 abbrev plain : spec.Element → Bool

@@ -1,11 +1,10 @@
 -- A header's elements, one by one.
-use mathlib.Core.Path.{◌≡◌, refl, ap, sym, ◌∙◌, subst}
+use mathlib.Core.Path.{◌≡◌, refl, ap, sym, ◌∙◌}
 use mathlib.Core.Bool.{Bool, true, false, cond, not, ◌||◌, or_assoc, false≢true}
 use mathlib.Core.List.{List, [], ◌∷◌, ◌++◌, map, append_assoc}
 use Rattle.std.specs.Prelude.{Option, Some, None}
 use Rattle.std.specs.Option.{option_or}
 use Rattle.std.specs.Bool.{then_some}
-use Rattle.std.proofs.lemmas.Option.{none-some, same_Some}
 use Prim.Native.Nat.{ℕ, ◌+◌, ◌-◌, ◌≤◌, ◌<◌}
 use native.Mathlib.Nat.{le_refl}
 use native.Mathlib.Omega.{arith}
@@ -27,22 +26,11 @@ use Rattle.macros.specs.Macros.{header_faults}
 use Rattle.macro_code.specs.Code.{paired, bytes_at}
 use Rattle.macro_changes.specs.Changing.{Kept}
 use Rattle.macro_changes.proofs.Cells.{first_of, second-of, tab-cong, tab-last, kept-none, kept_set, kept_on, kept-agree, bytes-agree}
-use Rattle.macro_changes.proofs.Giving.{lower-assoc, keep-first, one-fault, first_forward}
-use Rattle.macro_changes.proofs.Searching.{until-on, until-off, from_on, from-off}
-use Rattle.macro_elements.specs.ElementAt.{elements_from, argument_value, FirstElement}
+use Rattle.macro_changes.proofs.Giving.{lower-assoc, keep-first, one-fault, first_forward, stretch-on, rest-on}
+use Rattle.macro_changes.proofs.Searching.{until-on, from-off}
+use Rattle.macro_elements.specs.ElementAt.{argument_value, FirstBefore}
 use Rattle.macro_elements.specs.declared.Element.{Element}
-use Rattle.macro_reading.specs.Headers.{FirstBefore, NextBefore, placed, word_cell, heading, words_in, first_word, any_there, Headable, Heading}
-
--- one element of a stretch
-pub before_end : {p : spec.Element → Bool} {s : List ℕ} {n : ℕ} → until p (elements_from s n) ≡ [] → NextBefore p s n None
-before_end h = record { none = λ e. h; some = λ x e. absurd (none-some x e) }
-
-pub before-off : {p : spec.Element → Bool} {s : List ℕ} {n : ℕ} {t : Element} → FirstElement s n t → p (argument_value s t) ≡ true → NextBefore p s n None
-before-off {p} {s} {n} {t} k h = before_end (ap (until p) k.is ∙ until-off p (argument_value s t) (elements_from s t.next) h)
-
-pub before-on : {p : spec.Element → Bool} {s : List ℕ} {n : ℕ} {t : Element} → FirstElement s n t → p (argument_value s t) ≡ false → NextBefore p s n (Some t)
-before-on {p} {s} {n} {t} k h =
-    record { none = λ e. absurd (none-some t (sym e)); some = λ x e. subst (λ (u : Element). FirstBefore p s n u) (same_Some t x e) (record { first = k; fails = h }) }
+use Rattle.macro_reading.specs.Headers.{placed, word_cell, heading, words_in, first_word, any_there, Headable, Heading}
 
 -- where a stretch is empty, what follows it begins there
 pub whole-from : (p : spec.Element → Bool) (ts : List spec.Element) → until p ts ≡ [] → from p ts ≡ ts
@@ -52,13 +40,6 @@ whole-from p (t ∷ ts) e = go (p t) refl
     go : (b : Bool) → p t ≡ b → from p (t ∷ ts) ≡ t ∷ ts
     go true h = from-off p t ts h
     go false h = absurd (false≢true (ap filled (sym e ∙ until-on p t ts h)))
-
-module _ {s : List ℕ} {n : ℕ} {t : Element} {p : spec.Element → Bool} (k : FirstBefore p s n t) where
-  pub stretch-on : until p (elements_from s n) ≡ argument_value s t ∷ until p (elements_from s t.next)
-  stretch-on = ap (until p) k.first.is ∙ until-on p (argument_value s t) (elements_from s t.next) k.fails
-
-  pub rest-on : from p (elements_from s n) ≡ from p (elements_from s t.next)
-  rest-on = ap (from p) k.first.is ∙ from_on p (argument_value s t) (elements_from s t.next) k.fails
 
 -- words and their cells
 keep_word : (t : spec.Element) (ts : List spec.Element) (b : Bool) → is_word t ≡ b → keep is_word (t ∷ ts) ≡ cond b (t ∷ keep is_word ts) (keep is_word ts)

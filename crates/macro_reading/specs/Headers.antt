@@ -1,5 +1,5 @@
 -- A macro's name and parameters in cells: what the function that reads them promises.
-use Rattle.std.specs.Prelude.{Option, Some, None, ◌≡◌, Bool, false, cond, not, ◌||◌, List, [], ◌∷◌, ◌++◌, map, ℕ, ◌+◌, ◌≤◌, eqb, length, take}
+use Rattle.std.specs.Prelude.{Option, Some, None, ◌≡◌, Bool, cond, not, ◌||◌, List, [], ◌∷◌, ◌++◌, map, ℕ, ◌+◌, ◌≤◌, eqb, length, take}
 use Rattle.layout.specs.Cells.{tab}
 use Rattle.lists.specs.Lists.{any, keep}
 use Rattle.statements.specs.Faults.{Fault}
@@ -10,22 +10,12 @@ use Rattle.macros.specs.Macros.{header_faults}
 use Rattle.macro_changes.specs.Changing.{Kept}
 use Rattle.macro_code.specs.Code.{bytes_at}
 use Rattle.macro_code.specs.Places as place
-use Rattle.macro_elements.specs.ElementAt.{elements_from, argument_value, Lent, FirstElement}
-use Rattle.macro_elements.specs.declared.Element as code
+use Rattle.macro_elements.specs.ElementAt.{elements_from, Lent}
 use Rattle.macro_reading.specs.declared.Header.{Header}
 
 -- the cell of a word: the name's own, or a parameter's
 abbrev pub word_cell : ℕ → ℕ → ℕ
 word_cell q k = cond (eqb k 0) q (q + place.counts_cell + k)
-
--- t is the first element from place n on, and one before the first that passes the test
-pub record FirstBefore (p : Element → Bool) (s : List ℕ) (n : ℕ) (t : code.Element) : Type 0 where
-  pub first : FirstElement s n t
-  pub fails : p (argument_value s t) ≡ false
-
-pub record NextBefore (p : Element → Bool) (s : List ℕ) (n : ℕ) (r : Option code.Element) : Type 0 where
-  pub none : r ≡ None → until p (elements_from s n) ≡ []
-  pub some : (t : code.Element) → r ≡ Some t → FirstBefore p s n t
 
 -- the elements before the next bracket, and from it on
 abbrev pub heading : List ℕ → ℕ → List Element

@@ -3,7 +3,7 @@
 
 ghost use Rattle.std.specs.Option.{option_or};
 ghost use Rattle.std.specs.Prelude.{Some, None, ◌≡◌, cond, not, List, [], ◌∷◌, ℕ, ◌-◌, ◌<◌};
-ghost use Rattle.macros.specs.Elements.{is_bracket, is_end};
+ghost use Rattle.macros.specs.Elements.{is_bracket};
 ghost use Rattle.macro_elements.specs.ElementAt.{elements_from, argument_value, Lent};
 ghost use Rattle.macro_reading.specs.Whole.{follow_faults, Sectioned, SectionRead, Puttable, Puts, Bracketed, ListRead, LentRows, MacrosRead};
 ghost use Rattle.macro_reading.specs.Sections.{outer, Skips, FirstRead, Tailed, TailRead};
@@ -11,16 +11,16 @@ ghost use Rattle.statements.specs.Faults.{lower};
 ghost use Rattle.statements.specs.StatementAt.{fault_of};
 ghost use Rattle.macro_reading.specs.Definitions.{NextOpen, Definable, Defined, Listable, DefinitionsRead};
 ghost use Rattle.macro_reading.specs.Bodies.{Bodied, BodyRead};
-ghost use Rattle.macro_reading.specs.Headers.{word_cell, NextBefore, Headable, HeaderRead};
+ghost use Rattle.macro_reading.specs.Headers.{word_cell, Headable, HeaderRead};
 
 use macro_changes::{Parameters, Passed, put, read_changes};
 use macro_code::CodePlaces;
-use macro_elements::{Element, Source, is_identifier, is_mark, next_element};
+use macro_elements::{Element, Source, is_identifier, is_mark, next_before, next_element};
 use scanner::Sort;
 use statements::{Fault, lower};
 
 // A body that was read: what is passed, the cell behind it, and whether a bracket closes it.
-#[derive(Clone, Copy)]
+#[derive(Clone, Copy, Debug, PartialEq, Eq)]
 struct Body {
     passed: Passed,
     used: usize,
@@ -44,12 +44,11 @@ fn read_body(
     let stop = t.map_or(source.text.len(), |t| t.at);
     put(code, q + CodePlaces::SPAN, start, stop);
     put(code, q + CodePlaces::COUNTS, p.count, r.count);
-    let passed = Passed {
-        next: t.map_or(r.passed.next, |t| t.next),
-        ..r.passed
-    };
     Body {
-        passed,
+        passed: Passed {
+            next: t.map_or(r.passed.next, |t| t.next),
+            ..r.passed
+        },
         used: r.used,
         closed: t.is_some(),
     }
@@ -57,7 +56,7 @@ fn read_body(
 
 // A header that was read: what is passed; the count of its words, and the place of the first, if there is one; and whether anything but new lines
 // stands in it.
-#[derive(Clone, Copy)]
+#[derive(Clone, Copy, Debug, PartialEq, Eq)]
 struct Header {
     passed: Passed,
     words: usize,
@@ -79,21 +78,9 @@ fn word_cell(q: usize, k: usize) -> usize
 
 // Whether an element is a round bracket.
 fn is_bracket(t: Element) -> bool
-    ensures { (s : List ℕ) → result ≡ is_bracket (argument_value s t) }
+    ensures { result ≡ is_bracket (argument_value [] t) }
 {
     is_mark(b'(', t) | is_mark(b')', t)
-}
-
-// The next element of a header from place `n` on: none at a bracket.
-fn next_in_header(source: &Source, n: usize) -> Option<Element>
-    requires { Lent source.now.text.now source.now.marked.now n }
-    ensures { NextBefore is_bracket source.now.text.now n result }
-{
-    let t = next_element(source, n)?;
-    if is_bracket(t) {
-        return None;
-    }
-    Some(t)
 }
 
 // The place of the first word, where another one is met, or none.
@@ -112,7 +99,7 @@ fn read_header(source: &Source, code: &mut [u32], n: usize, q: usize) -> Header
     let mut words: usize = 0;
     let mut first = None;
     let mut some = false;
-    while let Some(t) = next_in_header(source, passed.next) {
+    while let Some(t) = next_before(source, passed.next, |t| is_bracket(t)) {
         let line = t.byte == b'\n';
         passed = passed.over(t, !(is_identifier(source.text, t) | line));
         some = some | !line;
@@ -130,7 +117,7 @@ fn read_header(source: &Source, code: &mut [u32], n: usize, q: usize) -> Header
 }
 
 // A definition that was read: what is passed; whether it has a name; and the cell behind it.
-#[derive(Clone, Copy)]
+#[derive(Clone, Copy, Debug, PartialEq, Eq)]
 struct Definition {
     passed: Passed,
     named: bool,
@@ -150,10 +137,7 @@ fn next_open(source: &Source, n: usize) -> Option<Element>
     ensures { NextOpen source.now.text.now n result }
 {
     let t = next_element(source, n)?;
-    if is_mark(b'(', t) {
-        return Some(t);
-    }
-    None
+    is_mark(b'(', t).then_some(t)
 }
 
 // The definition that begins at place `n`, with its record at the cell `q`; none, where the header has no body behind it.
@@ -169,12 +153,11 @@ fn read_definition(source: &Source, code: &mut [u32], n: usize, q: usize) -> Opt
     };
     let r = read_body(source, code, p, q, b.at + 1, b.next);
     let named = 0 < h.words;
-    let passed = Passed {
-        next: r.passed.next,
-        fault: definition_fault(h.passed.fault, named & r.closed, b.at, r.passed.fault),
-    };
     Some(Definition {
-        passed,
+        passed: Passed {
+            next: r.passed.next,
+            fault: definition_fault(h.passed.fault, named & r.closed, b.at, r.passed.fault),
+        },
         named,
         used: r.used,
     })
@@ -182,7 +165,7 @@ fn read_definition(source: &Source, code: &mut [u32], n: usize, q: usize) -> Opt
 
 // The definitions that were read: what is passed, up to the stretch behind them; the cell behind them; the count of macros; and whether there is a
 // definition.
-#[derive(Clone, Copy)]
+#[derive(Clone, Copy, Debug, PartialEq, Eq)]
 struct Definitions {
     passed: Passed,
     used: usize,
@@ -191,7 +174,7 @@ struct Definitions {
 }
 
 // All definitions from place `n` on, behind the list's bracket, and the first cell of each macro.
-// The row `firsts` is lent, and its rest holds hints later, so the count `k` stands beside it.
+// There is no heap: the lent row has room for the most macros, so the count `k` of those that are there stands beside it.
 fn read_definitions(source: &Source, code: &mut [u32], firsts: &mut [u16], n: usize) -> Definitions
     requires { Listable source.now.text.now source.now.marked.now code.old firsts.old n }
     ensures { DefinitionsRead source.now.text.now code.old firsts.old code.new firsts.new n result }
@@ -237,32 +220,20 @@ fn is_outer(t: Element) -> bool
     is_mark(b'*', t) | (is_bracket(t) | is_mark(b'\'', t) | t.joined.is_some())
 }
 
-// The next element of a statement from place `n` on: none at its end.
-fn next_in_statement(source: &Source, n: usize) -> Option<Element>
-    requires { Lent source.now.text.now source.now.marked.now n }
-    ensures { NextBefore is_end source.now.text.now n result }
-{
-    let t = next_element(source, n)?;
-    if t.is(Sort::End) {
-        return None;
-    }
-    Some(t)
-}
-
 // The first statement, from place `n` on.
 fn read_first(source: &Source, n: usize) -> Passed
     requires { Lent source.now.text.now source.now.marked.now n }
     ensures { FirstRead source.now.text.now n result }
 {
     let mut passed = Passed::nothing(n);
-    while let Some(t) = next_in_statement(source, passed.next) {
+    while let Some(t) = next_before(source, passed.next, |t| t.is(Sort::End)) {
         passed = passed.over(t, is_outer(t));
     }
     passed
 }
 
 // The stretch that ends the list: what is passed, up to where the section goes on; and the place where the list stops.
-#[derive(Clone, Copy)]
+#[derive(Clone, Copy, Debug, PartialEq, Eq)]
 struct Tail {
     passed: Passed,
     stop: usize,
@@ -283,23 +254,18 @@ fn read_tail(
     let b = next_element(source, h.passed.next);
     let sound = b.is_some() & (defined | h.some);
     let fault = lower(h.passed.fault, lower(h.first, (!sound).then_some(at)));
-    match b {
-        Some(b) => Tail {
-            passed: Passed {
-                next: b.next,
-                fault,
-            },
-            stop: b.at + 1,
-        },
-        None => Tail {
-            passed: Passed { fault, ..h.passed },
-            stop: source.text.len(),
-        },
+    let (stop, next) = match b {
+        Some(b) => (b.at + 1, b.next),
+        None => (source.text.len(), h.passed.next),
+    };
+    Tail {
+        passed: Passed { next, fault },
+        stop,
     }
 }
 
 // The list of macros and the section that were read: the count of macros; the cell of the section; and the lowest place at fault.
-#[derive(Clone, Copy)]
+#[derive(Clone, Copy, Debug, PartialEq, Eq)]
 pub struct Listing {
     pub count: usize,
     pub section: usize,
@@ -360,8 +326,7 @@ fn read_list(
     let before = lower(first, follow_fault(source, next));
     let u = d.used + CodePlaces::PARAMETERS;
     put_list(code, u, at, e.stop);
-    let on = u + CodePlaces::SMALL_SIZE;
-    let section = read_section(source, code, d.used, 1, on, next);
+    let section = read_section(source, code, d.used, 1, u + CodePlaces::SMALL_SIZE, next);
     Listing {
         count: d.count,
         section: d.used,
@@ -377,16 +342,13 @@ pub fn read_macros(source: &Source, code: &mut [u32], firsts: &mut [u16]) -> Lis
     requires { LentRows source.now.text.now source.now.marked.now code.old firsts.old }
     ensures { MacrosRead source.now.text.now code.new firsts.new result }
 {
-    let a = skip_ends(source, 0);
-    let f = read_first(source, a);
-    let b = skip_ends(source, f.next);
-    if let Some(bracket) = next_open(source, b) {
+    let f = read_first(source, skip_ends(source, 0));
+    if let Some(bracket) = next_open(source, skip_ends(source, f.next)) {
         return read_list(source, code, firsts, bracket, f.fault);
     }
-    let fault = read_section(source, code, 0, 0, CodePlaces::PARAMETERS, 0);
     Listing {
         count: 0,
         section: 0,
-        fault: fault,
+        fault: read_section(source, code, 0, 0, CodePlaces::PARAMETERS, 0),
     }
 }

@@ -12,14 +12,14 @@ ghost use Rattle.macro_section.specs.Origins.{ups, Fillable, Placed, Kept, Secti
 ghost use Rattle.macro_section.specs.Long.{Steady, over_at};
 ghost use Rattle.macro_code.specs.Code.{high, changes_in, first_change, change_count};
 
-use macro_code::CodePlaces;
+use macro_code::{CodePlaces, LEVELS};
 use macro_expansion::{Level, Macros};
-use macro_memory::{LEVELS, Memory};
+use macro_memory::Memory;
 use macro_values::Written;
 use statements::Fault;
 
 // The section written out: what is written, and the place of question 66.
-#[derive(Clone, Copy)]
+#[derive(Clone, Copy, Debug, PartialEq, Eq)]
 pub struct WrittenOut {
     pub state: Written,
     pub long: Fault,
@@ -54,18 +54,16 @@ fn section_change(
     cell: usize,
     v: Written,
 ) -> Written
-    requires { (cell < reach) × (size_of v ≤ length out.old) × Remembers list.now.listed.coded.text.now list.now.listed.coded.code.now list.now.listed.firsts.now list.now.listed.count memory.old.slots v }
-    ensures { Wrote (change_writes list.now.listed.coded.text.now list.now.listed.coded.code.now list.now.listed.firsts.now list.now.listed.count [] levels cell) v result out.old out.new × Remembers list.now.listed.coded.text.now list.now.listed.coded.code.now list.now.listed.firsts.now list.now.listed.count memory.new.slots result }
+    requires { (cell < reach) × (size_of v ≤ length out.old) × Remembers list.now.listed.coded.text.now list.now.listed.coded.code.now list.now.listed.firsts.now (length list.now.listed.firsts.now) memory.old.slots v }
+    ensures { Wrote (change_writes list.now.listed.coded.text.now list.now.listed.coded.code.now list.now.listed.firsts.now (length list.now.listed.firsts.now) [] levels cell) v result out.old out.new × Remembers list.now.listed.coded.text.now list.now.listed.coded.code.now list.now.listed.firsts.now (length list.now.listed.firsts.now) memory.new.slots result }
 {
-    let level = Level {
-        cell: cell,
-        left: LEVELS,
-    };
+    let level = Level { cell, left: LEVELS };
     macro_expansion::write_change(list, memory, out, level, v)
 }
 
 // Writes bytes that stay, and their places.
-// The rows of the bytes and of their places are both lent by the caller, and the places become lines in their row.
+// The rows of the bytes and of their places stand apart, since they are two locals of `macro_loading`, whose `loading` takes the bytes as `&[u8]` and
+// the lines, which the places become, as `&[u16]`.
 fn write_kept(
     text: &[u8],
     from: usize,
@@ -92,8 +90,7 @@ fn over_at(long: Fault, before: Written, after: Written, place: usize) -> Fault
     long
 }
 
-// Writes the section, with a memory for calls. The steps from change to change are those of `macro_expansion::run`: three lines alike, and
-// no more, since that one stops at a call, and this one keeps the places and where question 66 fails.
+// Writes the section, with a memory for calls.
 fn write_parts(
     list: &Macros,
     memory: &mut Memory,
@@ -101,18 +98,16 @@ fn write_parts(
     places: &mut [u16],
     section: usize,
 ) -> WrittenOut
-    requires { (section < half) × Room out.old places.old × Steady (high list.now.listed.coded.code.now (section + span_cell)) (changes_in list.now.listed.coded.text.now list.now.listed.coded.code.now (first_change list.now.listed.coded.code.now section) (change_count list.now.listed.coded.code.now section)) × Remembers list.now.listed.coded.text.now list.now.listed.coded.code.now list.now.listed.firsts.now list.now.listed.count memory.old.slots none }
-    ensures { Sectioned list.now.listed.coded.text.now list.now.listed.coded.code.now list.now.listed.firsts.now list.now.listed.count section result out.old out.new places.new }
+    requires { (section < half) × Room out.old places.old × Steady (high list.now.listed.coded.code.now (section + span_cell)) (changes_in list.now.listed.coded.text.now list.now.listed.coded.code.now (first_change list.now.listed.coded.code.now section) (change_count list.now.listed.coded.code.now section)) × Remembers list.now.listed.coded.text.now list.now.listed.coded.code.now list.now.listed.firsts.now (length list.now.listed.firsts.now) memory.old.slots none }
+    ensures { Sectioned list.now.listed.coded.text.now list.now.listed.coded.code.now list.now.listed.firsts.now (length list.now.listed.firsts.now) section result out.old out.new places.new }
 {
     let coded = &list.listed.coded;
     let stop = coded.low(section + CodePlaces::SPAN);
-    let changes = coded.low(section + CodePlaces::COUNTS);
     let room = out.len();
     let mut place = coded.high(section + CodePlaces::SPAN);
-    let mut cell = macro_calls::first_change(coded, section);
     let mut w = Written::nothing();
     let mut long = None;
-    for passed in 0..changes {
+    for cell in coded.changes(section) {
         let start = coded.high(cell);
         let kept = write_kept(coded.text, place, start, out, places, w);
         let next = section_change(list, memory, out, cell, kept);
@@ -121,7 +116,6 @@ fn write_parts(
         long = over_at(first, kept, next, start);
         w = next;
         place = coded.low(cell);
-        cell += macro_calls::change_size(coded, cell);
     }
     let last = write_kept(coded.text, place, stop, out, places, w);
     WrittenOut {
@@ -138,7 +132,7 @@ pub fn write_section(
     places: &mut [u16],
 ) -> WrittenOut
     requires { (section < half) × Room out.old places.old × Steady (high list.now.listed.coded.code.now (section + span_cell)) (changes_in list.now.listed.coded.text.now list.now.listed.coded.code.now (first_change list.now.listed.coded.code.now section) (change_count list.now.listed.coded.code.now section)) }
-    ensures { Sectioned list.now.listed.coded.text.now list.now.listed.coded.code.now list.now.listed.firsts.now list.now.listed.count section result out.old out.new places.new }
+    ensures { Sectioned list.now.listed.coded.text.now list.now.listed.coded.code.now list.now.listed.firsts.now (length list.now.listed.firsts.now) section result out.old out.new places.new }
 {
     let mut memory = Memory::new();
     write_parts(list, &mut memory, out, places, section)

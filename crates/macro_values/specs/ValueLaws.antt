@@ -4,7 +4,7 @@ use Rattle.std.proofs.Common.{sym, ◌∙◌, arith, ltb-true, ltb-false, ne_eqb
 use Rattle.std.proofs.Math.Path.{ap}
 use Rattle.std.proofs.lemmas.Bool.{false≢true}
 use Rattle.std.proofs.lemmas.Option.{none-some, same_Some}
-use Rattle.std.specs.Prelude.{Some, None}
+use Rattle.std.specs.Prelude.{Option, Some, None}
 use mathlib.Core.List.{List, [], ◌++◌, map, append-nil, append_assoc}
 use Prim.Native.Nat.{ℕ, zero, suc, ◌-◌, ◌<◌, ◌≤◌}
 use Rattle.std.proofs.Math.ListN.{length, get_or, length-map, get_or-map, get_or-eq_default}
@@ -18,7 +18,7 @@ use Rattle.macro_code.specs.Kinds.{GivenAt, parameter_of}
 use Rattle.macro_code.specs.Places as place
 use Rattle.macro_code.specs.declared.Given.{Given}
 use Rattle.macro_code.specs.declared.Given.TheVariants.{Typed, Parameter, Joined}
-use Rattle.macro_values.specs.Values.{kind_of, number_in, own, goes_up, next_cell}
+use Rattle.macro_values.specs.Values.{kind_of, number_in, own, goes_up, next_cell, has_argument, ArgumentOf, Above}
 
 -- what the parameter stands for
 abbrev pub up : List (List ℕ) → List ℕ → ℕ → List ℕ
@@ -158,6 +158,34 @@ value-here s c calls (suc d) k i h f l =
     let e : suc d - 1 ≡ d = omega arith in
     let g : i ≡ get_or calls d 0 = rw e at f in
     rw (e, g) (sym (argument-here s c calls d k (rw g at l)))
+
+-- the argument of a number, and none
+pub goes-argument : (c calls : List ℕ) (d g k : ℕ) → (kind_of c g ≡ place.typed_kind → ⊥) → k ≡ number_in c g → goes_up c calls d g ≡ has_argument c calls d k
+unfolding goes_up has_argument
+goes-argument c calls zero g k h e = refl
+goes-argument c calls (suc d) g k h e = rw (ne_eqb (kind_of c g) place.typed_kind h, e) refl
+
+pub above-told : (c calls : List ℕ) (d g k : ℕ) (r : Option ℕ) → (kind_of c g ≡ place.typed_kind → ⊥) → k ≡ number_in c g → ArgumentOf c calls d k r → Above c calls d g r
+above-told c calls d g k None h e a = goes-argument c calls d g k h e ∙ a
+above-told c calls d g k (Some i) h e a = (goes-argument c calls d g k h e ∙ a.0, a.1, a.2 ∙ ap (argument_cell (get_or calls (d - 1) 0)) e, a.3)
+
+pub argument-told : (c calls : List ℕ) (d k i n : ℕ) → 1 ≤ d → i ≡ get_or calls (d - 1) 0 → n ≡ argument_count c i → has_argument c calls d k ≡ ltb k n
+unfolding has_argument
+argument-told c calls zero k i n h e f = absurd (omega arith)
+argument-told c calls (suc d) k i n h e f = let z : suc d - 1 ≡ d = omega arith in rw (f, e, z) refl
+
+pub no-argument : (s c calls : List ℕ) (d k : ℕ) → has_argument c calls d k ≡ false → [] ≡ get_or (arguments_in s c calls d) k []
+unfolding has_argument
+no-argument s c calls zero k h = value-bare s c calls zero k refl
+no-argument s c calls (suc d) k h = sym (argument-none s c calls d k (ltb-false _ _ h))
+
+pub the-argument : (s c calls : List ℕ) (d k i : ℕ) → has_argument c calls d k ≡ true → i ≡ argument_cell (get_or calls (d - 1) 0) k
+    → filled_in (arguments_in s c calls (d - 1)) (given_in s c i) ≡ get_or (arguments_in s c calls d) k []
+unfolding has_argument
+the-argument s c calls zero k i h e = absurd (false≢true h)
+the-argument s c calls (suc d) k i h e =
+    let f : suc d - 1 ≡ d = omega arith in
+    rw (e, f) (sym (argument-here s c calls d k (ltb-true _ _ h)))
 
 pub goes-told : (c calls : List ℕ) (d g k i n : ℕ) → (kind_of c g ≡ place.typed_kind → ⊥) → (d ≡ 0 → ⊥) → k ≡ number_in c g → i ≡ get_or calls (d - 1) 0
     → n ≡ argument_count c i → goes_up c calls d g ≡ ltb k n

@@ -2,6 +2,7 @@
 use Rattle.std.specs.Prelude.{Option, ◌≡◌, Bool, true, false, cond, List, [], ℕ, zero, suc, ◌+◌, ◌-◌, ◌≤◌, ◌<◌, eqb, ltb, get_or}
 use Rattle.std.specs.Option.{MatchOption}
 use Rattle.macro_code.specs.Bounds.{far}
+pub use Rattle.macro_code.specs.Bounds.{reach}
 use Rattle.macro_code.specs.Code.{high, low, bytes_at, argument_count, argument_cell}
 use Rattle.macro_code.specs.Places as place
 
@@ -21,9 +22,15 @@ goes_up c calls (suc d) g = cond (eqb (kind_of c g) place.typed_kind) false (ltb
 abbrev pub next_cell : List ℕ → List ℕ → ℕ → ℕ → ℕ
 next_cell c calls d g = argument_cell (get_or calls d 0) (number_in c g)
 
--- the cells of changes are below this number
-abbrev pub reach : ℕ
-reach = 549755813888
+-- whether the last of d calls has an argument of that number
+unfoldable pub has_argument : List ℕ → List ℕ → ℕ → ℕ → Bool
+has_argument c calls zero k = false
+has_argument c calls (suc d) k = ltb k (argument_count c (get_or calls d 0))
+
+-- the argument of that number of the last of d calls, if it has one
+abbrev pub ArgumentOf : List ℕ → List ℕ → ℕ → ℕ → Option ℕ → Type 0
+ArgumentOf c calls d k r =
+    MatchOption r (has_argument c calls d k ≡ false) (λ i. (has_argument c calls d k ≡ true) × (1 ≤ d) × (i ≡ argument_cell (get_or calls (d - 1) 0) k) × (i < far))
 
 -- the argument that a parameter within d calls stands for, if it stands for one
 abbrev pub Above : List ℕ → List ℕ → ℕ → ℕ → Option ℕ → Type 0

@@ -6,7 +6,7 @@ ghost use Rattle.macro_code.specs.Bounds.{near, far};
 ghost use Rattle.macro_code.specs.Code.{given_in, arguments_in, argument_cell};
 ghost use Rattle.macro_code.specs.Places.{half};
 ghost use Rattle.macros.specs.Expansion.{just, filled_in};
-ghost use Rattle.macro_values.specs.Values.{reach, own, Above};
+ghost use Rattle.macro_values.specs.Values.{reach, own, ArgumentOf, Above};
 ghost use Rattle.macro_values.specs.Wrote.{size_of, none, Wrote};
 
 use macro_code::{CodePlaces, Coded, Given};
@@ -14,7 +14,7 @@ use statements::Fault;
 
 // What is written: how many bytes, none if there is no room for all, or if a call is too deep; and the faults of 64 and of 65 that are met.
 // The row of bytes is lent beside it: of a struct with a `&mut` to the row, each function and each loop would have to say that it is still that row.
-#[derive(Clone, Copy)]
+#[derive(Clone, Copy, Debug, PartialEq, Eq)]
 pub struct Written {
     pub count: Option<usize>,
     pub unknown: Fault,
@@ -78,7 +78,7 @@ pub fn argument_cell(call: usize, k: usize) -> usize
 }
 
 // A text with its cells, and the cells of nested calls, of which so many are around.
-#[derive(Clone, Copy)]
+#[derive(Clone, Copy, Debug, PartialEq, Eq)]
 pub struct Around<'a, 'b> {
     pub coded: Coded<'a>,
     pub calls: &'b [u32],
@@ -98,20 +98,25 @@ impl<'a, 'b> Around<'a, 'b> {
         }
     }
 
+    // The argument number `k` of the last of `d` calls.
+    fn argument_of(&self, d: usize, k: usize) -> Option<usize>
+        requires { k < half }
+        ensures { ArgumentOf self.now.coded.code.now self.now.calls.now d k result }
+    {
+        let call = cell_at(self.calls, d.checked_sub(1)?);
+        if k < self.coded.low(call + CodePlaces::KIND) {
+            return Some(argument_cell(call, k));
+        }
+        None
+    }
+
     // The argument of the last of `d` calls that the parameter of a name or an argument stands for.
     fn above(&self, d: usize, g: usize) -> Option<usize>
         requires { g < far }
         ensures { Above self.now.coded.code.now self.now.calls.now d g result }
     {
         let k = self.coded.given_at(g).parameter()?;
-        if d == 0 {
-            return None;
-        }
-        let call = cell_at(self.calls, d - 1);
-        if k >= self.coded.low(call + CodePlaces::KIND) {
-            return None;
-        }
-        Some(argument_cell(call, k))
+        self.argument_of(d, k)
     }
 
     // Writes what a name or an argument stands for.
@@ -135,17 +140,13 @@ impl<'a, 'b> Around<'a, 'b> {
         requires { (k < half) × (size_of v ≤ length out.old) }
         ensures { Wrote (just (get_or (arguments_in self.now.coded.text.now self.now.coded.code.now self.now.calls.now self.now.depth) k [])) v result out.old out.new }
     {
-        if self.depth == 0 {
-            return v;
-        }
-        let call = cell_at(self.calls, self.depth - 1);
-        if k >= self.coded.low(call + CodePlaces::KIND) {
-            return v;
-        }
+        let Some(g) = self.argument_of(self.depth, k) else {
+            return v
+        };
         let outer = Around {
             depth: self.depth - 1,
             ..*self
         };
-        outer.write_given(argument_cell(call, k), out, v)
+        outer.write_given(g, out, v)
     }
 }

@@ -1,16 +1,13 @@
 -- `macro_calls::find_macro` meets its contract.
-use Rattle.macro_calls.proofs.Seeking.{finds-none, finds-one, finds-more}
+use Rattle.std.proofs.Common.{sym, ◌∙◌}
+use Rattle.macro_calls.proofs.Seeking.{finds-none, finds-alone}
 use Rattle.macro_calls.proofs.find_macro.Goals as goal
 
 pub returns-in_err-number : goal.returns-in_err-number
-returns-in_err-number c = let a = c.args in rw c.from_residual.ensures (finds-none a.list.now.coded.text.now a.list.now.coded.code.now a.list.now.firsts.now a.list.now.count a.name.now c.in_err-number.ensures.next)
+returns-in_err-number c = let x = c.args.list.now in
+    rw c.from_residual.ensures (finds-none x.coded.text.now x.coded.code.now x.firsts.now c.args.name.now (sym c.first_named.ensures ∙ c.in_err-number.was))
 
-pub returns-in-Some : goal.returns-in-Some
-returns-in-Some c = let a = c.args in
-    let first = c.in_ok-number.ensures in
-    finds-more a.list.now.coded.text.now a.list.now.coded.code.now a.list.now.firsts.now a.list.now.count a.name.now first.next first.listed c.in-Some.ensures.next c.in-Some.ensures.listed
-
-pub returns-in-None : goal.returns-in-None
-returns-in-None c = let a = c.args in
-    let first = c.in_ok-number.ensures in
-    finds-one a.list.now.coded.text.now a.list.now.coded.code.now a.list.now.firsts.now a.list.now.count a.name.now first.next first.listed c.in-None.ensures.next
+pub returns : goal.returns
+returns c = let x = c.args.list.now in
+    finds-alone x.coded.text.now x.coded.code.now x.firsts.now c.args.name.now (sym c.first_named.ensures ∙ c.in_ok-number.was) c.split_at.ensures.back c.first_named-second.result c.first_named-second.ensures
+    c.is_none.result c.is_none.ensures c.then_some.ensures

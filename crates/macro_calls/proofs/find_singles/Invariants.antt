@@ -1,6 +1,14 @@
 -- `macro_calls::find_singles` meets its contract.
-use Rattle.macro_calls.proofs.Seeking.{Singling}
+use Rattle.std.specs.Prelude.{◌≡◌, ℕ, ◌≤◌, ◌<◌, eqb, get_or, length}
+use Rattle.macros.specs.Expansion.{called_by}
+use Rattle.macro_code.specs.Code.{bytes_at, macros_in}
 use Rattle.macro_calls.proofs.find_singles.Given as goal
 
 abbrev pub invariant-loop-k : goal.invariant-loop-k
-invariant-loop-k l = Singling l.list.coded.text.now l.list.coded.code.now l.list.firsts.now l.list.count l.singles l.k
+invariant-loop-k l =
+    let x = l.list in
+    let s = x.coded.text.now in
+    let c = x.coded.code.now in
+    let f = x.firsts.now in
+    (length f ≤ length l.singles)
+    × ((j : ℕ) → j < l.k → eqb (get_or l.singles j 0) 1 ≡ eqb (length (called_by (macros_in s c f (length f)) (bytes_at s c (get_or f j 0)))) 1)

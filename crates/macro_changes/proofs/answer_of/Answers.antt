@@ -4,9 +4,6 @@ use native.Mathlib.Omega.{arith}
 use Rattle.macro_changes.proofs.Giving.{joined-answer, other-answer, parameter-answer, typed-answer}
 use Rattle.macro_changes.proofs.answer_of.Goals as goal
 
-pub find_parameter-k-requires : goal.find_parameter-k-requires
-find_parameter-k-requires c = let h = c.requires.held in let e = rw c.in-Some.is at h.joined_ends in record { own = e.0; ends = omega (arith, e.1, h.most); small = h.small; scoped = c.requires.scoped }
-
 pub returns-in-Some : goal.returns-in-Some
 returns-in-Some c = let k = c.find_parameter-k in
     rw (c.unwrap_or.ensures, c.count_in.ensures, c.is_some.ensures) (joined-answer c.args.text.now c.args.code.now c.args.x c.requires.held c.in-Some.is c.requires.few k.result k.ensures.found k.ensures.listed c.is_identifier.ensures)

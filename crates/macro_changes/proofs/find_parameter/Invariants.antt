@@ -2,10 +2,9 @@
 use mathlib.Core.Path.{◌≡◌}
 use mathlib.Core.Bool.{false}
 use Prim.Native.Nat.{ℕ, ◌+◌, ◌<◌}
-use Rattle.lexer.specs.Tokens.{part}
 use Rattle.lists.specs.Lists.{bytes_equal}
 use Rattle.macro_code.specs.Code.{bytes_at}
 use Rattle.macro_changes.proofs.find_parameter.Given as goal
 
 abbrev pub invariant-loop-i : goal.invariant-loop-i
-invariant-loop-i l = (j : ℕ) → j < l.i → bytes_equal (part l.text l.at l.end) (bytes_at l.text l.code (l.p.first + j)) ≡ false
+invariant-loop-i l = (j : ℕ) → j < l.i → bytes_equal l.name (bytes_at l.text l.code (l.p.first + j)) ≡ false

@@ -7,16 +7,16 @@ pub read_call-requires : goal.read_call-requires
 read_call-requires c =
     record {
       copy = c.requires.lent.copy;
-      started = started c.requires (c.next_inside.ensures.some c.in_ok-t.t c.in_ok-t.was);
+      started = started c.requires (c.next_before.ensures.some c.in_ok-t.t c.in_ok-t.was);
       star = sym (c.is_mark.ensures c.args.source.now.text.now) ∙ c.if-is_mark.true;
     }
 
 pub returns-then-is_mark : goal.returns-then-is_mark
-returns-then-is_mark c = change-some (c.next_inside.ensures.some c.in_ok-t.t c.in_ok-t.was) c.read_call.ensures
+returns-then-is_mark c = change-some (c.next_before.ensures.some c.in_ok-t.t c.in_ok-t.was) c.read_call.ensures
 
 pub read_word-requires : goal.read_word-requires
 read_word-requires c =
-    record { started = started c.requires (c.next_inside.ensures.some c.in_ok-t.t c.in_ok-t.was); plain = sym (c.is_mark.ensures c.args.source.now.text.now) ∙ c.if-is_mark.false }
+    record { started = started c.requires (c.next_before.ensures.some c.in_ok-t.t c.in_ok-t.was); plain = sym (c.is_mark.ensures c.args.source.now.text.now) ∙ c.if-is_mark.false }
 
 pub returns : goal.returns
-returns c = change-some (c.next_inside.ensures.some c.in_ok-t.t c.in_ok-t.was) c.read_word.ensures
+returns c = change-some (c.next_before.ensures.some c.in_ok-t.t c.in_ok-t.was) c.read_word.ensures

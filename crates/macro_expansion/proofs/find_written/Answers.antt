@@ -5,6 +5,7 @@ use Rattle.macros.specs.Expansion.{filled_in}
 use Rattle.macro_code.specs.Code.{given_in, arguments_in}
 use Rattle.macro_values.specs.WritingLaws.{none-over}
 use Rattle.macro_expansion.specs.CallLaws.{long-unknown}
+use lib.ListN.{length}
 use Rattle.macro_expansion.proofs.find_written.Goals as goal
 
 pub returns-in_err-n : goal.returns-in_err-n
@@ -16,6 +17,6 @@ returns-in_err-n c =
     let none : c.write_given-written.result.count ≡ None = search rules in
     rw c.from_residual.ensures
     (record {
-      once_is = long-unknown l.coded.text.now l.coded.code.now l.firsts.now l.count w c.args.name.now c.args.list.now.known.names c.requires.1 (sym k.over ∙ none-over c.write_given-written.result none);
+      once_is = long-unknown l.coded.text.now l.coded.code.now l.firsts.now (length l.firsts.now) w c.args.name.now c.args.list.now.known.names c.requires.1 (sym k.over ∙ none-over c.write_given-written.result none);
       only = tt;
     })

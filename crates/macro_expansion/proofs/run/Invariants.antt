@@ -1,21 +1,20 @@
 -- `macro_expansion::run` meets its contract.
-use mathlib.Core.Path.{◌≡◌}
-use Prim.Native.Nat.{◌+◌, ◌*◌, ◌<◌, ◌-◌}
+use Rattle.std.proofs.Common.{◌≡◌, ◌<◌, ◌≤◌, length}
 use Rattle.macros.specs.Expansion.{Writing, followed_by}
 use Rattle.macro_code.specs.Places.{half}
-use Rattle.macro_memory.specs.Memory.{reach}
 use Rattle.macro_values.specs.Wrote.{Wrote}
-use Rattle.macro_code.specs.Bounds.{widest}
 use Rattle.macro_expansion.specs.Expanding.{rest_writes}
 use Rattle.macro_expansion.proofs.run.Given as goal
 
-abbrev pub invariant-loop-passed : goal.invariant-loop-passed
-invariant-loop-passed l =
+abbrev pub invariant-loop-cell : goal.invariant-loop-cell
+invariant-loop-cell l =
     let s = l.list.listed.coded.text.now in
     let c = l.list.listed.coded.code.now in
     let f = l.list.listed.firsts.now in
-    let n = l.list.listed.count in
     (u : Writing) × Wrote u l.initial.w l.w l.initial.out l.out
-    × (rest_writes s c f n l.memory.calls l.rest.left l.initial.place l.rest.stop l.initial.cell l.rest.changes
-    ≡ followed_by u (rest_writes s c f n l.memory.calls l.rest.left l.place l.rest.stop l.cell (l.rest.changes - l.passed)))
-    × (l.place < half) × (l.cell + widest * (l.rest.changes - l.passed) < reach)
+    × (rest_writes s c f (length f) l.memory.calls l.rest.left l.rest.place l.rest.stop l.rest.changes.cell l.rest.changes.left
+    ≡ followed_by u (rest_writes s c f (length f) l.memory.calls l.rest.left l.place l.rest.stop l.changes.cell l.changes.left))
+    × (l.place < half) × (l.changes.coded.code.now ≡ c) × (l.changes.left ≤ l.rest.changes.left)
+
+abbrev pub decreases-loop-cell : goal.decreases-loop-cell
+decreases-loop-cell l = l.changes.left

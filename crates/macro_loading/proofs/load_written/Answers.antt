@@ -1,6 +1,7 @@
 -- `macro_loading::load_written` meets its contract.
 use native.Mathlib.Omega.{arith}
-use mathlib.Core.Path.{sym}
+use mathlib.Core.Path.{◌≡◌, sym}
+use Rattle.std.proofs.Common.{rules, Err}
 use lib.Seq.{length-take-le}
 use Rattle.macro_loading.proofs.Outcomes.{unfit-leaves, lent, ready-leaves}
 use Rattle.macro_loading.proofs.load_written.Goals as goal
@@ -11,12 +12,12 @@ slice_bounds-names-end c =
 
 pub load_lined-requires : goal.load_lined-requires
 load_lined-requires c =
-    lent c.requires c.prepare.ensures c.in-Ok.n c.in-Ok.is (length-take-le 32768 c.prepare.new.code (omega (arith, c.prepare.ensures.code_size)))
+    lent c.requires c.prepare.ensures c.in_ok-n.n c.in_ok-n.was (length-take-le 32768 c.prepare.new.code (omega (arith, c.prepare.ensures.code_size)))
 
-pub returns-in-Err : goal.returns-in-Err
-returns-in-Err c =
-    unfit-leaves c.requires c.prepare.ensures c.in-Err.unfit c.in-Err.is
+pub returns-in_err-n : goal.returns-in_err-n
+returns-in_err-n c =
+    let e : c.from_residual.result ≡ Err c.in_err-n.field-0.0 = search rules in
+    rw e (unfit-leaves c.requires c.prepare.ensures c.in_err-n.field-0.0 c.in_err-n.was)
 
-pub returns-in-Ok : goal.returns-in-Ok
-returns-in-Ok c =
-    ready-leaves c.requires c.prepare.ensures c.in-Ok.n c.in-Ok.is c.load_lined.ensures
+pub returns : goal.returns
+returns c = ready-leaves c.requires c.prepare.ensures c.in_ok-n.n c.in_ok-n.was c.load_lined.ensures

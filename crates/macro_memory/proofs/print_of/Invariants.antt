@@ -1,7 +1,7 @@
 -- `macro_memory::print_of` meets its contract.
-use Rattle.std.proofs.Common.{◌≤◌, length}
+use Rattle.std.proofs.Common.{◌≤◌}
 use Rattle.macro_values.specs.Wrote.{size_of}
 use Rattle.macro_memory.proofs.print_of.Given as goal
 
 abbrev pub invariant-loop-k : goal.invariant-loop-k
-invariant-loop-k l = (size_of l.w ≤ length l.row) × (l.n ≤ length l.row)
+invariant-loop-k l = (size_of l.w ≤ 128) × (l.n ≤ 128)

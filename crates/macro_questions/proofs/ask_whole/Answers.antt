@@ -1,18 +1,15 @@
 -- `macro_questions::ask_whole` meets its contract.
 use native.Mathlib.Omega.{arith}
 use mathlib.Core.Path.{◌∙◌, ap}
-use Prim.Native.Nat.{min}
 use Rattle.lexer.specs.declared.Token.{Token}
 use Rattle.macro_marks.specs.ItemLaws.{further}
-use Rattle.statements.specs.Checks.{token_code}
-use Rattle.macro_questions.proofs.Asking.{asking-first, place-low, all_asked, asking-on}
+use Rattle.statements.specs.Checks.{token_verdict}
+use Rattle.statements.specs.Faults.{worse}
+use Rattle.macro_questions.proofs.Asking.{asking-first, all_asked, asking-on}
 use Rattle.macro_questions.proofs.ask_whole.Goals as goal
 
 pub loop-t-init : goal.loop-t-init
-loop-t-init c = asking-first c.requires
-
-pub worse-worst-requires : goal.worse-worst-requires
-worse-worst-requires c = rw c.judged.ensures (place-low c.loop-t.invariant (c.next_item.ensures.some _ c.in-Some.is).found)
+loop-t-init c = asking-first
 
 pub loop-t-smaller : goal.loop-t-smaller
 loop-t-smaller c = let k = c.next_item.ensures.some _ c.in-Some.is in omega (arith, further k.found k.there, k.found.stands.most)
@@ -20,7 +17,7 @@ loop-t-smaller c = let k = c.next_item.ensures.some _ c.in-Some.is in omega (ari
 pub loop-t-preserved : goal.loop-t-preserved
 loop-t-preserved c =
     let k = c.next_item.ensures.some _ c.in-Some.is in
-    asking-on c.loop-t.invariant k.found k.there c.byte_at.ensures (c.worse-worst.ensures ∙ ap (λ (x : Token). min c.loop-t.worst (token_code x)) c.judged.ensures)
+    asking-on c.loop-t.invariant k.found k.there c.byte_at.ensures (c.worse-worst.ensures ∙ ap (λ (x : Token). worse c.loop-t.worst (token_verdict x)) c.judged.ensures)
 
 pub returns : goal.returns
-returns c = let k = c.next_item.ensures.none c.in_default.is in c.checked.ensures ∙ all_asked c.loop-t.invariant k.found c.requires k.none
+returns c = let k = c.next_item.ensures.none c.in_default.is in all_asked c.loop-t.invariant k.found c.requires k.none

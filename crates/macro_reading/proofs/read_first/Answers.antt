@@ -8,10 +8,10 @@ pub loop-t-init : goal.loop-t-init
 loop-t-init c = rw c.nothing-passed.ensures (firsts-none c.requires)
 
 pub loop-t-smaller : goal.loop-t-smaller
-loop-t-smaller c = let k = (c.next_in_statement.ensures.some _ c.in-Some.is).first in rw c.over-passed.ensures (omega (arith, first_forward k, k.held.most))
+loop-t-smaller c = let k = (c.next_before.ensures.some _ c.in-Some.is).first in rw c.over-passed.ensures (omega (arith, first_forward k, k.held.most))
 
 pub loop-t-preserved : goal.loop-t-preserved
-loop-t-preserved c = rw c.over-passed.ensures (firsts-on c.loop-t.invariant (c.next_in_statement.ensures.some _ c.in-Some.is) _ (c.is_outer.ensures c.args.source.now.text.now))
+loop-t-preserved c = rw c.over-passed.ensures (firsts-on c.loop-t.invariant (c.next_before.ensures.some _ c.in-Some.is) _ (c.is_outer.ensures c.args.source.now.text.now))
 
 pub returns : goal.returns
-returns c = first_done c.loop-t.invariant (c.next_in_statement.ensures.none c.in_default.is)
+returns c = first_done c.loop-t.invariant (c.next_before.ensures.none c.in_default.is)

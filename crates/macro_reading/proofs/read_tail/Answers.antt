@@ -4,8 +4,8 @@ use mathlib.Core.Path.{refl, ◌∙◌}
 use Rattle.macro_reading.proofs.Ending.{tail-fault, tail-read}
 use Rattle.macro_reading.proofs.read_tail.Goals as goal
 
-pub overflow_add-result : goal.overflow_add-result
-overflow_add-result c = let h = (c.next_element-b.ensures.some _ c.in-Some.is).held in omega (arith, h.own, h.ends, h.small)
+pub overflow_add-stop : goal.overflow_add-stop
+overflow_add-stop c = let h = (c.next_element-b.ensures.some _ c.in-Some.is).held in omega (arith, h.own, h.ends, h.small)
 
 pub returns-in-Some : goal.returns-in-Some
 returns-in-Some c =

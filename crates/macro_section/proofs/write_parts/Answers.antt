@@ -1,52 +1,49 @@
 -- `macro_section::write_parts` meets its contract.
-use Rattle.std.proofs.Common.{◌≡◌, ◌+◌, ◌-◌, refl, sym, ap, ◌∙◌, arith, [], length}
+use Rattle.std.proofs.Common.{refl, sym, ap, ◌∙◌, arith, [], length}
 use Rattle.macro_values.specs.Wrote.{is_over, size_of}
 use Rattle.macro_section.specs.Long.{over_at}
 use Rattle.macro_section.specs.SectionLaws.{section-begins, section-turn, section-ends}
 use Rattle.macro_section.specs.DeepLaws.{overs-begin, overs-turn, overs-end}
 use Rattle.macro_section.proofs.write_parts.Goals as goal
 
-pub loop-passed-init : goal.loop-passed-init
-loop-passed-init c =
+pub loop-cell-init : goal.loop-cell-init
+loop-cell-init c =
     let a = c.args in
     let x = a.list.now.listed in
-    let e : c.low-changes.result - 0 ≡ c.low-changes.result = omega arith in (
+    let f = x.firsts.now in
+    let starts = rw (sym c.into_iter-cell-iterator.ensures.into_iter_gives) at c.changes-cell-items.ensures in (
       [],
-      rw e
-          (section-begins x.coded.text.now x.coded.code.now x.firsts.now x.count a.section c.high-place.result c.low-stop.result c.first_change-cell.result c.low-changes.result _ a.out.now a.places.now
-          (ap size_of c.nothing-w.ensures) c.high-place.ensures.0 c.low-stop.ensures.0 c.first_change-cell.ensures.0 c.low-changes.ensures.0),
+      section-begins x.coded.text.now x.coded.code.now f (length f) a.section c.high-place.result c.low-stop.result _ _ a.out.now a.places.now
+          (ap size_of c.nothing-w.ensures) c.high-place.ensures.0 c.low-stop.ensures.0 starts,
       refl,
       c.high-place.ensures.1,
-      omega (arith, c.first_change-cell.ensures.1, c.low-changes.ensures.1),
-      rw e
-          (overs-begin x.coded.text.now x.coded.code.now x.firsts.now x.count (length a.out.now) a.section c.high-place.result c.low-stop.result c.first_change-cell.result c.low-changes.result c.nothing-w.result
-          (ap size_of c.nothing-w.ensures) (ap is_over c.nothing-w.ensures) c.high-place.ensures.0 c.low-stop.ensures.0 c.first_change-cell.ensures.0 c.low-changes.ensures.0 c.requires.2),
+      starts.code_is,
+      overs-begin x.coded.text.now x.coded.code.now f (length f) (length a.out.now) a.section c.high-place.result c.low-stop.result _ c.nothing-w.result
+          (ap size_of c.nothing-w.ensures) (ap is_over c.nothing-w.ensures) c.high-place.ensures.0 c.low-stop.ensures.0 starts c.requires.2,
       rw c.nothing-w.ensures c.requires.3,
     )
 
-pub loop-passed-preserved : goal.loop-passed-preserved
-loop-passed-preserved c =
+pub loop-cell-preserved : goal.loop-cell-preserved
+loop-cell-preserved c =
     let a = c.args in
     let x = a.list.now.listed in
-    let l = c.loop-passed in
+    let f = x.firsts.now in
+    let l = c.loop-cell in
     let i = l.invariant in
-    let n = c.low-changes.result - l.passed in
-    let e : c.low-changes.result - (l.passed + 1) ≡ n - 1 = omega arith in
+    let gives = c.in-Some.ensures.steps in
     let k = rw c.high-start.ensures.0 at c.write_kept-kept.ensures in
     let next = c.section_change-next in (
       _,
-      rw (sym e) at
-          (section-turn x.coded.text.now x.coded.code.now x.firsts.now x.count c.low-stop.result _ _ _ l.w c.write_kept-kept.result a.out.now l.out _ l.places _ i.0 l.place l.cell n i.1
-          next.result _ _ c.low-place.result c.change_size-cell.result c.high-start.result (omega arith) k next.ensures.0 (rw c.unwrap_or.ensures at c.repeat_place.ensures)
-          c.high-start.ensures.0 c.low-place.ensures.0 c.change_size-cell.ensures.0),
+      section-turn x.coded.text.now x.coded.code.now f (length f) c.low-stop.result _ _ _ l.w c.write_kept-kept.result a.out.now l.out _ l.places _ i.0 l.place l.cell-iterator i.4 i.1
+          _ _ gives next.result _ _ c.low-place.result c.high-start.result k next.ensures.0 (rw c.unwrap_or.ensures at c.repeat_place.ensures)
+          c.high-start.ensures.0 c.low-place.ensures.0,
       c.repeat_place.ensures.size ∙ c.write_kept-kept.ensures.placed.size ∙ i.2,
       c.low-place.ensures.1,
-      omega (arith, i.4, c.change_size-cell.ensures.1),
-      rw (sym e) at
-          (overs-turn x.coded.text.now x.coded.code.now x.firsts.now x.count c.low-stop.result _ i.0 l.w c.write_kept-kept.result l.long c.over_at-first.result [] l.out _ (length a.out.now) l.place l.cell n
-          i.1.wrote.size i.5 (omega (arith, i.1.wrote.most, i.1.wrote.size)) next.result c.over_at-long.result _ c.low-place.result c.change_size-cell.result (omega arith) k.wrote
-          (rw c.unwrap_or-in-loop-passed.ensures at c.over_at-first.ensures) next.ensures.0
-          (c.over_at-long.ensures ∙ ap (over_at c.over_at-first.result (is_over c.write_kept-kept.result) (is_over next.result)) c.high-start.ensures.0) c.low-place.ensures.0 c.change_size-cell.ensures.0),
+      gives.code_stays ∙ i.4,
+      overs-turn x.coded.text.now x.coded.code.now f (length f) c.low-stop.result _ i.0 l.w c.write_kept-kept.result l.long c.over_at-first.result [] l.out _ (length a.out.now) l.place l.cell-iterator i.4
+          i.1.wrote.size i.5 (omega (arith, i.1.wrote.most, i.1.wrote.size)) _ _ gives next.result c.over_at-long.result _ c.low-place.result k.wrote
+          (rw c.unwrap_or-in-loop-cell.ensures at c.over_at-first.ensures) next.ensures.0
+          (c.over_at-long.ensures ∙ ap (over_at c.over_at-first.result (is_over c.write_kept-kept.result) (is_over next.result)) c.high-start.ensures.0) c.low-place.ensures.0,
       next.ensures.1,
     )
 
@@ -54,10 +51,11 @@ pub returns : goal.returns
 returns c =
     let a = c.args in
     let x = a.list.now.listed in
-    let l = c.loop-passed in
-    let n = c.low-changes.result - l.passed in
-    let t = section-ends x.coded.text.now x.coded.code.now x.firsts.now x.count c.low-stop.result _ _ _ l.w c.write_kept-last.result a.out.now l.out _ l.places _ l.invariant.0 l.place l.cell n
-    l.invariant.1 (omega arith) c.write_kept-last.ensures in
-    let u = overs-end x.coded.text.now x.coded.code.now x.firsts.now x.count c.low-stop.result _ l.invariant.0 l.w c.write_kept-last.result l.long c.over_at.result [] l.out _ (length a.out.now) l.place l.cell n
-    l.invariant.1.wrote.size l.invariant.5 (omega (arith, l.invariant.1.wrote.most, l.invariant.1.wrote.size)) (omega arith) c.write_kept-last.ensures.wrote (rw c.unwrap_or-2.ensures at c.over_at.ensures) in
+    let f = x.firsts.now in
+    let l = c.loop-cell in
+    let done = c.in-None.ensures.steps.0 in
+    let t = section-ends x.coded.text.now x.coded.code.now f (length f) c.low-stop.result _ _ _ l.w c.write_kept-last.result a.out.now l.out _ l.places _ l.invariant.0 l.place l.cell-iterator l.invariant.4
+    l.invariant.1 done c.write_kept-last.ensures in
+    let u = overs-end x.coded.text.now x.coded.code.now f (length f) c.low-stop.result _ l.invariant.0 l.w c.write_kept-last.result l.long c.over_at.result [] l.out _ (length a.out.now) l.place l.cell-iterator l.invariant.4
+    l.invariant.1.wrote.size l.invariant.5 (omega (arith, l.invariant.1.wrote.most, l.invariant.1.wrote.size)) done c.write_kept-last.ensures.wrote (rw c.unwrap_or-2.ensures at c.over_at.ensures) in
     record { wrote = rw c.nothing-w.ensures at t.0; placed = t.1; long = rw t.2 u }
