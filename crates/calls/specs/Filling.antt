@@ -2,7 +2,8 @@
 -- answers, and what it leaves in the lent buffer.
 use Rattle.std.specs.Prelude.{◌≡◌, Result, Ok, Err, cond, List, ◌++◌, ℕ, eqb, length, drop}
 use Rattle.calls.specs.Calls.{packed}
-use Rattle.calls.specs.declared.Refused.{Refused}
+use Rattle.calls.specs.Questions.{question_number, numbered}
+use Rattle.calls.specs.declared.Question.{Question}
 
 -- a number, "with the buffer unchanged"; or a number, and the bytes written
 pub data Filling : Type 0 where
@@ -30,38 +31,38 @@ pub record Fills (x : Filling) (r : ℕ) (b b' : List ℕ) : Type 0 where
   pub answer : r ≡ filling_answer x
   pub cells : b' ≡ filled_in x b
 
--- ---- the same as a result: the count of bytes written, or the number of the first no
+-- ---- the same as a result: the count of bytes written, or the first question answered no
 
 abbrev pub Filled : Type 0
-Filled = Result ℕ Refused
+Filled = Result ℕ Question
 
-abbrev pub filled_of : Filling → Filled
-filled_of (kept number) = Err (record { number = number })
+abbrev pub filled_of : Filling → Result ℕ ℕ
+filled_of (kept number) = Err number
 filled_of (fills number t) = Ok (length t)
 
 -- "its number, 80 if accepted"
 abbrev pub filled_number : Filled → ℕ
 filled_number (Ok n) = 80
-filled_number (Err r) = r.number
+filled_number (Err q) = question_number q
 
-abbrev pub filled_count : Filled → ℕ
+abbrev pub filled_count : {E : Type 0} → Result ℕ E → ℕ
 filled_count (Ok n) = n
-filled_count (Err r) = 0
+filled_count (Err q) = 0
 
 pub record Gives (x : Filling) (r : Filled) (b b' : List ℕ) : Type 0 where
-  pub result_is : r ≡ filled_of x
+  pub result_is : numbered r ≡ filled_of x
   pub number_is : filled_number r ≡ filling_number x
   pub cells_are : b' ≡ filled_in x b
 
 -- ---- the same of a call that fills none
 
 abbrev pub Taken : Type 0
-Taken = Result (Unit {0}) Refused
+Taken = Result (Unit {0}) Question
 
 abbrev pub taken_number : Taken → ℕ
 taken_number (Ok u) = 80
-taken_number (Err r) = r.number
+taken_number (Err q) = question_number q
 
 -- what is told by a number, 80 if accepted
-abbrev pub taken_with : ℕ → Taken
-taken_with n = cond (eqb n 80) (Ok tt) (Err (record { number = n }))
+abbrev pub taken_with : ℕ → Result (Unit {0}) ℕ
+taken_with n = cond (eqb n 80) (Ok tt) (Err n)

@@ -1,3 +1,4 @@
 pub mod Calls
 pub mod Filling
 pub mod Answers
+pub mod Questions

@@ -29,7 +29,7 @@ use Rattle.matching.specs.declared.Taken.{Taken}
 use Rattle.matching.specs.Tests.{Took}
 use Rattle.records.proofs.Walking.{AllTaken, all-taken}
 use Rattle.records.specs.declared.Sequence.{Sequence}
-use Rattle.records.specs.declared.Totals.{Totals}
+use Rattle.components.specs.declared.Amount.{Amount}
 use Rattle.records.specs.Sequences.{part_total, char_total, TookRecords, Totalled}
 use Rattle.check_memory.specs.Passes.{sizes, sum, zeros, laid, all_strings, expressions, halves, expression_parts, expression_chars, distinct}
 use Rattle.check_memory.specs.Reads.{Ended, StringLent, ExpressionSums, FileSums, Comparable}
@@ -132,7 +132,7 @@ module _ {m : List ℕ} (w : Each WholeComponents (expressions m)) {i : ℕ} (h 
   pub taken-all : {t : Taken} → Took everything (components_in r) t → AllTaken (length r) (components_in r) t
   taken-all k = all-taken {s = r} {xs = components_in r} {c = r} (record { cells = whole-expression; most = omega arith; small = q.small }) k
 
-  pub expressions-next : {a b : ℕ} → ExpressionsAdded m i a b → {t : Taken} → Took everything (components_in r) t → ExpressionsAdded m (i + 1) (a + t.parts) (b + t.chars)
+  pub expressions-next : {a b : ℕ} → ExpressionsAdded m i a b → {t : Taken} → Took everything (components_in r) t → ExpressionsAdded m (i + 1) (a + t.amount.parts) (b + t.amount.chars)
   expressions-next g k =
       let x = taken-all k in
       let e = lent-expression h q in
@@ -169,15 +169,15 @@ halves-none m = record {
   count = adding-none (λ v. length (records_in v)) (halves m);
 }
 
-pub count_is : {r : List ℕ} {t : Sequence} → TookRecords everything r t → (t.records ≡ length (records_in r)) × (t.records ≤ length r)
+pub count_is : {r : List ℕ} {t : Sequence} → TookRecords everything r t → (t.end.records ≡ length (records_in r)) × (t.end.records ≤ length r)
 count_is k = (sym (ap (λ z. z.0) k.is), omega (arith, k.cut.small, k.cut.within))
 
 module _ {m : List ℕ} (w : Each WholeRecords (halves m)) {i : ℕ} (h : i < 64) {r : List ℕ} (q : StringLent m (32 + i) r) where
   pub whole-half : WholeRecords r
   whole-half = subst WholeRecords (sym (lent-half h q)) (each_in WholeRecords (halves m) w i [] (omega (arith, length-halves m)))
 
-  pub halves-next : {a b c : ℕ} → HalvesAdded m i a b c → {t : Totals} → Totalled r t → {u : Sequence} → TookRecords everything r u
-      → HalvesAdded m (i + 1) (a + t.parts) (b + t.chars) (c + u.records)
+  pub halves-next : {a b c : ℕ} → HalvesAdded m i a b c → {t : Amount} → Totalled r t → {u : Sequence} → TookRecords everything r u
+      → HalvesAdded m (i + 1) (a + t.parts) (b + t.chars) (c + u.end.records)
   halves-next g x y =
       let e = lent-half h q in
       let n = length-halves m in

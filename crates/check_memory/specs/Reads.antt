@@ -25,6 +25,11 @@ pub record Ended (m : List ℕ) (e : ℕ) : Type 0 where
   pub long : length m ≡ limit.state
   pub is : e ≡ layout.first_byte + sum (sizes m)
 
+-- m is the cells of a state, and its strings have room
+pub record Roomy (m : List ℕ) : Type 0 where
+  pub long : length m ≡ limit.state
+  pub room : sum (sizes m) ≤ layout.room
+
 -- the strings of m can be read
 pub record Readable (m st : List ℕ) : Type 0 where
   pub long : length m ≡ limit.state

@@ -1,12 +1,12 @@
 // Question 63 as tests of the cells, one after the other: numbers and zeros, strings, totals, addresses.
 #![tactic(auto)]
 
-ghost use Rattle.std.specs.Prelude.{◌≡◌, ◌≤◌, ◌<◌, length};
+ghost use Rattle.std.specs.Prelude.{◌≡◌, ◌≤◌, ◌<◌, length, cond, Some, None};
 ghost use Rattle.layout.specs.Cells.{three_at};
 ghost use Rattle.lists.specs.Lists.{all};
 ghost use Rattle.check_strings.specs.Sound.{sound_components, sound_records};
 ghost use Rattle.check_memory.specs.Passes.{zeros, laid, expressions, halves, sound, is_total, counted, distinct};
-ghost use Rattle.check_memory.specs.Reads.{Measurable, Started, Ended, Readable, StringLent, BothWhole, ExpressionSums, FileSums, AllSums, Comparable};
+ghost use Rattle.check_memory.specs.Reads.{Measurable, Started, Ended, Roomy, StringLent, BothWhole, ExpressionSums, FileSums, AllSums, Comparable};
 ghost use Rattle.language.specs.Limits as limit;
 ghost use Rattle.layout.specs.Bounds.{Each, WholeComponents, WholeRecords};
 ghost use Rattle.layout.specs.Places.{strings_count, last_cell};
@@ -15,7 +15,7 @@ use language::Machine;
 use layout::StatePlaces;
 use std::marker::Model;
 
-// What the components and the records of some strings come to.
+// What the components and the records of some strings come to. No `Amount` with the records beside it: the bytes of many strings are not asked for.
 #[derive(Clone, Copy, Debug, PartialEq, Eq)]
 pub struct Sums {
     pub parts: usize,
@@ -35,7 +35,7 @@ fn are_zeros(cells: &[u8]) -> bool
 }
 
 // Writes where the strings start, and tells where the last one ends.
-pub fn starts_of(m: &[u8], starts: &mut [u32]) -> usize
+fn starts_of(m: &[u8], starts: &mut [u32]) -> usize
     requires { Measurable m.now (length starts.old) }
     ensures { Started m.now starts.new result }
 {
@@ -48,7 +48,7 @@ pub fn starts_of(m: &[u8], starts: &mut [u32]) -> usize
 }
 
 // Whether H and the last address given are in range, the strings have room, and the cells from `end` on are zeros.
-pub fn is_laid(m: &[u8], end: usize) -> bool
+fn is_laid(m: &[u8], end: usize) -> bool
     requires { Ended m.now end }
     ensures { result ≡ laid m.now }
 {
@@ -70,7 +70,7 @@ fn is_total(most: usize, told: usize, n: usize) -> bool
 #[derive(Drop)]
 pub struct Memory<'a> {
     cells: &'a [u8],
-    starts: &'a [u32],
+    starts: [u32; StatePlaces::STRINGS_COUNT],
 }
 
 impl<'a> Model for Memory<'a> {
@@ -81,15 +81,31 @@ impl<'a> Model for Memory<'a> {
 
     ghost view = { λ s. s.cells.now };
 
-    ghost invariant = { λ s. Readable s.cells.now s.starts.now };
+    ghost invariant = { λ s. Readable s.cells.now s.starts };
 }
 
 impl<'a> Memory<'a> {
-    pub fn new(cells: &'a [u8], starts: &'a [u32]) -> Memory<'a>
-        requires { Readable cells.now starts.now }
+    // Of cells whose strings have room.
+    pub fn new(cells: &'a [u8]) -> Memory<'a>
+        requires { Roomy cells.now }
         ensures { result ≡ cells.now }
     {
+        let mut starts = [0u32; StatePlaces::STRINGS_COUNT];
+        starts_of(cells, &mut starts);
         Memory { cells, starts }
+    }
+
+    // Of any cells, if their numbers are in range, their strings have room, and the rest is zeros.
+    pub fn laid(cells: &'a [u8]) -> Option<Memory<'a>>
+        requires { length cells.now ≡ limit.state }
+        ensures { result ≡ cond (laid cells.now) (Some cells.now) None }
+    {
+        let mut starts = [0u32; StatePlaces::STRINGS_COUNT];
+        let end = starts_of(cells, &mut starts);
+        if !is_laid(cells, end) {
+            return None;
+        }
+        Some(Memory { cells, starts })
     }
 
     pub fn cells(&self) -> &'a [u8]
@@ -105,7 +121,7 @@ impl<'a> Memory<'a> {
         requires { k < strings_count }
         ensures { StringLent self.now k result.now }
     {
-        let from = cells::read(self.starts, k);
+        let from = cells::read(&self.starts, k);
         let to = from + cells::two_at(self.cells, StatePlaces::FIRST_LENGTH + 2 * k);
         &self.cells[from..to]
     }
@@ -147,8 +163,8 @@ impl<'a> Memory<'a> {
         for i in 0..Machine::EXPRESSIONS {
             let v = self.string(i);
             let t = matching::count(v, matching::Test::All);
-            parts += t.parts;
-            chars += t.chars;
+            parts += t.amount.parts;
+            chars += t.amount.chars;
         }
         Sums {
             parts,
@@ -172,7 +188,7 @@ impl<'a> Memory<'a> {
             let q = records::count(v, records::RecordTest::First(matching::Test::All));
             parts += t.parts;
             chars += t.chars;
-            records += q.records;
+            records += q.end.records;
         }
         Sums {
             parts,

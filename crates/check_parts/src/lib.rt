@@ -2,52 +2,44 @@
 // the table count as zero.
 #![tactic(auto)]
 
-ghost use Rattle.std.specs.Prelude.{◌≡◌, ◌+◌, ◌<◌, ◌≤◌, length};
+ghost use Rattle.std.specs.Prelude.{◌≡◌, ◌+◌, ◌<◌};
 ghost use Rattle.cells.specs.Cells.{Number};
-ghost use Rattle.characters.specs.Characters.{known_marks};
 ghost use Rattle.layout.specs.Cells.{cell};
 ghost use Rattle.packed.specs.Packed.{table_of};
-ghost use Rattle.check_parts.specs.Places.{Place};
 ghost use Rattle.check_parts.specs.Parts.{zeros, char, char_fits, chars_fit, text_fits, texts_same, number_fits, label_fits, ref_fits, entry_fits};
-ghost use Rattle.language.specs.Limits as limit;
 
 use language::Machine;
 use layout::TablePlaces;
+use table::Table;
 
-// Cell `k`, and 0 past the table.
-pub fn read(table: &[u32], k: usize) -> usize
-    requires { limit.table ≤ length table.now }
-    ensures { Number (cell (table_of table.now) k) 4294967296 result }
+// Cell `k` as a number, and 0 past the table.
+pub fn read(table: Table, k: usize) -> usize
+    ensures { Number (cell (table_of table.entry.cells.now) k) 4294967296 result }
 {
-    if k < Machine::TABLE {
-        return cells::read(table, k);
-    }
-    0
+    table.cell_at(k) as usize
 }
 
 // Whether the cells from `from` up to `to` are zero.
-pub fn zeros(table: &[u32], from: usize, to: usize) -> bool
-    requires { limit.table ≤ length table.now }
-    ensures { result ≡ zeros (table_of table.now) from to }
+pub fn zeros(table: Table, from: usize, to: usize) -> bool
+    ensures { result ≡ zeros (table_of table.entry.cells.now) from to }
 {
     (from..to).all(|k| read(table, k) == 0)
 }
 
 // Character `j` of those from cell `at` on.
 #[tactic(auto, using(crate::proofs::Chars::char_by))]
-fn char_at(table: &[u32], at: usize, j: usize) -> u8
-    requires { Place table.now (at + j) 65536 }
-    ensures { result ≡ char (table_of table.now) at j }
+fn char_at(table: Table, at: usize, j: usize) -> u8
+    requires { at + j < 65536 }
+    ensures { result ≡ char (table_of table.entry.cells.now) at j }
 {
     ((read(table, at + j / 4) >> (8 * (j % 4))) % 256) as u8
 }
 
-// Whether character `j` is one of a name or a text of `n`, or 0 behind it. `marks` is the table of characters by byte. The definition takes a Bool
-// for `name`, so an enum would add a mapping.
+// Whether character `j` is one of a name or a text of `n`, or 0 behind it. The definition takes a Bool for `name`, so an enum would add a mapping.
 #[tactic(auto, unfolding(crate::specs::Parts::char_fits))]
-fn char_fits(table: &[u32], at: usize, n: usize, name: bool, j: usize, marks: &[u8]) -> bool
-    requires { Place table.now (at + j) 65536 × (marks.now ≡ known_marks) }
-    ensures { result ≡ char_fits (table_of table.now) at n name j }
+fn char_fits(table: Table, at: usize, n: usize, name: bool, j: usize) -> bool
+    requires { at + j < 65536 }
+    ensures { result ≡ char_fits (table_of table.entry.cells.now) at n name j }
 {
     let b = char_at(table, at, j);
     if n <= j {
@@ -56,38 +48,32 @@ fn char_fits(table: &[u32], at: usize, n: usize, name: bool, j: usize, marks: &[
     if name {
         return characters::is_capital(b) | characters::is_digit(b);
     }
-    characters::is_known(b, marks)
+    characters::is_known(b)
 }
 
-fn chars_fit(table: &[u32], at: usize, n: usize, name: bool, marks: &[u8]) -> bool
-    requires { Place table.now at 65000 × (marks.now ≡ known_marks) }
-    ensures { result ≡ chars_fit (table_of table.now) at n name }
+fn chars_fit(table: Table, at: usize, n: usize, name: bool) -> bool
+    requires { at < 65000 }
+    ensures { result ≡ chars_fit (table_of table.entry.cells.now) at n name }
 {
-    (0..Machine::ITEM).all(|j| char_fits(table, at, n, name, j, marks))
+    (0..Machine::ITEM).all(|j| char_fits(table, at, n, name, j))
 }
 
 // Whether text `k` has 2 to 60 characters.
-#[tactic(auto, unfolding(crate::specs::Parts::text_fits, characters::specs::Characters::known_marks))]
-pub fn text_fits(table: &[u32], k: usize) -> bool
-    requires { Place table.now k 512 }
-    ensures { result ≡ text_fits (table_of table.now) k }
+#[tactic(auto, unfolding(crate::specs::Parts::text_fits))]
+pub fn text_fits(table: Table, k: usize) -> bool
+    requires { k < 512 }
+    ensures { result ≡ text_fits (table_of table.entry.cells.now) k }
 {
     let n = read(table, TablePlaces::FIRST_TEXT + 16 * k);
     (1 < n)
         & (n <= Machine::ITEM)
-        & chars_fit(
-            table,
-            TablePlaces::FIRST_CHARACTERS + 16 * k,
-            n,
-            false,
-            &characters::MARKS,
-        )
+        & chars_fit(table, TablePlaces::FIRST_CHARACTERS + 16 * k, n, false)
 }
 
 // Whether the texts `i` and `j` have the same cells.
-pub fn texts_same(table: &[u32], i: usize, j: usize) -> bool
-    requires { Place table.now (i + j) 512 }
-    ensures { result ≡ texts_same (table_of table.now) i j }
+pub fn texts_same(table: Table, i: usize, j: usize) -> bool
+    requires { i + j < 512 }
+    ensures { result ≡ texts_same (table_of table.entry.cells.now) i j }
 {
     let first = TablePlaces::FIRST_TEXT + 16 * i;
     let second = TablePlaces::FIRST_TEXT + 16 * j;
@@ -95,20 +81,20 @@ pub fn texts_same(table: &[u32], i: usize, j: usize) -> bool
 }
 
 // Whether number `k` is in range and beyond 15 in size.
-#[tactic(auto, unfolding(crate::specs::Parts::number_fits))]
-pub fn number_fits(table: &[u32], k: usize) -> bool
-    requires { Place table.now k 512 }
-    ensures { result ≡ number_fits (table_of table.now) k }
+#[tactic(auto, using(table::specs::ReadLaws::not_small), unfolding(crate::specs::Parts::number_fits))]
+pub fn number_fits(table: Table, k: usize) -> bool
+    requires { k < 512 }
+    ensures { result ≡ number_fits (table_of table.entry.cells.now) k }
 {
     let x = read(table, TablePlaces::FIRST_NUMBER + k);
-    (x <= 16777214) & ((x < 8388592) | (8388622 < x))
+    (x <= 2 * Machine::SIZE) & !table::is_small(x as u32)
 }
 
 // Whether label `k` has a name of 1 to 60 characters, and an instruction.
-#[tactic(auto, unfolding(crate::specs::Parts::label_fits, characters::specs::Characters::known_marks))]
-pub fn label_fits(table: &[u32], k: usize) -> bool
-    requires { Place table.now k 512 }
-    ensures { result ≡ label_fits (table_of table.now) k }
+#[tactic(auto, unfolding(crate::specs::Parts::label_fits))]
+pub fn label_fits(table: Table, k: usize) -> bool
+    requires { k < 512 }
+    ensures { result ≡ label_fits (table_of table.entry.cells.now) k }
 {
     let x = read(table, TablePlaces::FIRST_LABEL + 16 * k);
     let n = x % 64;
@@ -116,29 +102,27 @@ pub fn label_fits(table: &[u32], k: usize) -> bool
     (0 < n)
         & (n <= Machine::ITEM)
         & characters::is_capital(char_at(table, at, 0))
-        & chars_fit(table, at, n, true, &characters::MARKS)
-        & (x / 64 < read(table, TablePlaces::INSTRUCTION_COUNT))
+        & chars_fit(table, at, n, true)
+        & (x / 64 < table.instructions())
 }
 
 // Whether `v` refers to one of the characters or to a text of the table.
-#[tactic(auto, unfolding(crate::specs::Parts::ref_fits, characters::specs::Characters::known_marks))]
-pub fn ref_fits(table: &[u32], v: usize) -> bool
-    requires { limit.table ≤ length table.now }
-    ensures { result ≡ ref_fits (table_of table.now) v }
+#[tactic(auto, unfolding(crate::specs::Parts::ref_fits))]
+pub fn ref_fits(table: Table, v: usize) -> bool
+    ensures { result ≡ ref_fits (table_of table.entry.cells.now) v }
 {
     if v < 256 {
-        return characters::is_known(v as u8, &characters::MARKS);
+        return characters::is_known(v as u8);
     }
-    v < 256 + read(table, TablePlaces::TEXT_COUNT)
+    v < 256 + table.texts()
 }
 
-// Whether entry `k` of a switch has a label, and a text only where the switch is by name.
+// Whether entry `k` of a switch has a label, and a text only where the switch is by name. `named` is a Bool, as the specification's `goes_by_name`.
 #[tactic(auto, unfolding(crate::specs::Parts::entry_fits))]
-pub fn entry_fits(table: &[u32], named: bool, k: usize) -> bool
-    requires { Place table.now k 65536 }
-    ensures { result ≡ entry_fits (table_of table.now) named k }
+pub fn entry_fits(table: Table, named: bool, k: usize) -> bool
+    requires { k < 65536 }
+    ensures { result ≡ entry_fits (table_of table.entry.cells.now) named k }
 {
     let x = read(table, TablePlaces::FIRST_ENTRY + k);
-    (x % 128 < read(table, TablePlaces::LABEL_COUNT))
-        & ((x / 128 == 0) | (named & ref_fits(table, x / 128)))
+    (x % 128 < table.labels()) & ((x / 128 == 0) | (named & ref_fits(table, x / 128)))
 }

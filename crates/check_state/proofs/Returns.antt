@@ -31,9 +31,6 @@ module _ (c : List ℕ) (good : T (good_table c)) where
   abbrev p : Program
   p = program_of c
 
-  pub table-long : 8192 ≤ length c
-  table-long = (table-facts c good).long
-
   -- how many instructions there are
   pub code_is : {k : ℕ} → Number (cell (table_of c) 0) 4294967296 k → k ≡ length p.code
   code_is q = q.is ∙ sym (code_count c)

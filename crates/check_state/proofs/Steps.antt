@@ -9,9 +9,9 @@ use lib.ListN.{length, take}
 use Rattle.cells.specs.Cells.{Number}
 use Rattle.check_memory.proofs.Facts.{counted-open}
 use Rattle.check_memory.proofs.Question.{question-63, too_short}
-use Rattle.check_memory.proofs.Steps.{passed, both-whole}
+use Rattle.check_memory.proofs.Steps.{passed}
 use Rattle.check_memory.specs.Passes.{laid, sound, counted, distinct, sound_stack, sound_output, fitting}
-use Rattle.check_memory.specs.Reads.{Started, StringLent, Comparable}
+use Rattle.check_memory.specs.Reads.{StringLent, BothWhole, Comparable}
 use Rattle.check_memory.proofs.Below.ComponentWalks.{bytes_take}
 use Rattle.check_memory.specs.Below.Sound.{Bytes}
 use Rattle.layout.specs.Cells.{cell, three_at}
@@ -24,12 +24,8 @@ use Rattle.packed.specs.Packed.{table_of}
 use Rattle.check_state.specs.Asked.{Asked, Workable, passes}
 use Rattle.check_state.proofs.Returns.{code_is}
 
-module _ {c m : List ℕ} {x y : ℕ} (w : Workable c m x y) {st : List ℕ} {end : ℕ} (g : Started m st end) {t : Bool} (e : t ≡ laid m) (k : t ≡ true) where
-  pub comparable : Bytes m → {u : Bool} → u ≡ sound m → u ≡ true → {v : Bool} → v ≡ counted m → v ≡ true → Comparable m y
-  comparable b f h q z = record {
-    files = (both-whole w.long g e k b f h).files;
-    room = omega (arith, (counted-open m (passed q z)).records.fits, w.addresses_is);
-  }
+pub comparable : {c m : List ℕ} {y : ℕ} → Workable c m y → BothWhole m → {v : Bool} → v ≡ counted m → v ≡ true → Comparable m y
+comparable w b q z = record { files = b.files; room = omega (arith, (counted-open _ (passed q z)).records.fits, w.addresses_is) }
 
 -- ---- the answers
 

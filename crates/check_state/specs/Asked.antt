@@ -3,7 +3,6 @@ use Rattle.std.specs.Prelude.{◌≡◌, Bool, ◌&&◌, List, [], ◌∷◌, �
 use Rattle.check_memory.specs.Passes.{laid, sound, counted, distinct, fitting}
 use Rattle.language.specs.Limits as limit
 use Rattle.layout.specs.Table.{program_of, good_table}
-use Rattle.layout.specs.Places as layout
 use Rattle.machine.specs.WellFormed.{good_inputs}
 
 -- questions 62 and 61 were answered yes
@@ -11,11 +10,10 @@ pub record Asked (c i j : List ℕ) : Type 0 where
   pub table : T (good_table c)
   pub inputs : T (good_inputs (i ∷ j ∷ []))
 
--- there are places for the starts of the strings and for the addresses
-pub record Workable (c m : List ℕ) (starts addresses : ℕ) : Type 0 where
+-- there are places for the addresses
+pub record Workable (c m : List ℕ) (addresses : ℕ) : Type 0 where
   pub table : T (good_table c)
   pub long : length m ≡ limit.state
-  pub starts_is : starts ≡ layout.strings_count
   pub addresses_is : addresses ≡ limit.records
 
 abbrev pub passes : List ℕ → List ℕ → List ℕ → List ℕ → Bool

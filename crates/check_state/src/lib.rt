@@ -12,15 +12,8 @@ ghost use Rattle.check_state.specs.Asked.{Asked, Workable, passes};
 use check_memory::Memory;
 use language::Machine;
 use layout::StatePlaces;
-use table::Table;
-
-// A table and the two inputs, which every call is lent.
-#[derive(Clone, Copy)]
-struct Lent<'a> {
-    table: Table<'a>,
-    first: &'a [u8],
-    second: &'a [u8],
-}
+use tasks::Task;
+use tasks::from_table::Table;
 
 // Whether an entry of the stack stands just after a call.
 fn is_return(table: Table, n: usize) -> bool
@@ -59,29 +52,27 @@ fn is_output(s: &[u8]) -> bool
 }
 
 // Whether stack, outputs, read places and next instruction fit the program and the inputs.
-fn is_fitting(lent: Lent, memory: &Memory) -> bool
-    requires { T (good_table lent.table.cells.now) }
-    ensures { result ≡ fitting (program_of lent.entry.table.cells.now) lent.entry.first.now lent.entry.second.now memory.now }
+fn is_fitting(task: Task, memory: &Memory) -> bool
+    requires { T (good_table task.table.cells.now) }
+    ensures { result ≡ fitting (program_of task.entry.table.cells.now) task.entry.first.now task.entry.second.now memory.now }
 {
     let m = memory.cells();
-    is_stack(lent.table, memory.string(StatePlaces::STACK_STRING))
+    is_stack(task.table, memory.string(StatePlaces::STACK_STRING))
         & (is_output(memory.string(StatePlaces::FIRST_OUTPUT))
             & is_output(memory.string(StatePlaces::SECOND_OUTPUT)))
-        & ((cells::three_at(m, StatePlaces::FIRST_PLACE_CELL) <= lent.first.len())
-            & (cells::three_at(m, StatePlaces::SECOND_PLACE_CELL) <= lent.second.len()))
-        & (cells::three_at(m, StatePlaces::NEXT_CELL) < lent.table.instructions())
+        & ((cells::three_at(m, StatePlaces::FIRST_PLACE_CELL) <= task.first.len())
+            & (cells::three_at(m, StatePlaces::SECOND_PLACE_CELL) <= task.second.len()))
+        & (cells::three_at(m, StatePlaces::NEXT_CELL) < task.table.instructions())
 }
 
-// The tests in their order. `starts` and `list` are for the starts of the strings and the addresses of the records.
-fn is_passed(lent: Lent, m: &[u8], starts: &mut [u32], list: &mut [u32]) -> bool
-    requires { Workable lent.table.cells.now m.now (length starts.old) (length list.old) }
-    ensures { result ≡ passes lent.entry.table.cells.now lent.entry.first.now lent.entry.second.now m.now }
+// The tests in their order. `list` is for the addresses of the records.
+fn is_passed(task: Task, m: &[u8], list: &mut [u32]) -> bool
+    requires { Workable task.table.cells.now m.now (length list.old) }
+    ensures { result ≡ passes task.entry.table.cells.now task.entry.first.now task.entry.second.now m.now }
 {
-    let end = check_memory::starts_of(m, starts);
-    if !check_memory::is_laid(m, end) {
+    let Some(memory) = Memory::laid(m) else {
         return false;
-    }
-    let memory = Memory::new(m, starts);
+    };
     if !memory.is_sound() {
         return false;
     }
@@ -91,22 +82,16 @@ fn is_passed(lent: Lent, m: &[u8], starts: &mut [u32], list: &mut [u32]) -> bool
     if !memory.is_distinct(list) {
         return false;
     }
-    is_fitting(lent, &memory)
+    is_fitting(task, &memory)
 }
 
-pub fn is_state<'a>(table: &'a [u32], i1: &'a [u8], i2: &'a [u8], state: &[u8]) -> bool
-    requires { Asked table.now i1.now i2.now }
-    ensures { result ≡ good_memory (program_of table.now) (i1.now ∷ i2.now ∷ []) state.now }
+pub fn is_state(task: Task, state: &[u8]) -> bool
+    requires { Asked task.table.cells.now task.first.now task.second.now }
+    ensures { result ≡ good_memory (program_of task.entry.table.cells.now) (task.entry.first.now ∷ task.entry.second.now ∷ []) state.now }
 {
     if state.len() < Machine::STATE {
         return false;
     }
-    let mut starts = [0u32; StatePlaces::STRINGS_COUNT];
     let mut list = [0u32; Machine::RECORDS];
-    let lent = Lent {
-        table: Table { cells: table },
-        first: i1,
-        second: i2,
-    };
-    is_passed(lent, &state[..Machine::STATE], &mut starts, &mut list)
+    is_passed(task, &state[..Machine::STATE], &mut list)
 }

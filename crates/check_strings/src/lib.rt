@@ -2,22 +2,18 @@
 #![tactic(auto)]
 
 ghost use Rattle.std.specs.Prelude.{◌≡◌, ◌≤◌, ◌<◌, length};
-ghost use Rattle.characters.specs.Characters.{known_marks};
 ghost use Rattle.check_strings.specs.Sound.{sound_components, sound_short, FrontSize, given, framed, sound_records, RecordSize};
 
-// The largest code of a number, that of 8,388,607.
-const LARGEST: usize = 16777214;
-
-// Whether what stands behind a first cell of 0 is a number or an address without fault.
+// Whether what stands behind a first cell of 0 is a number or an address without fault. The largest code is that of 8,388,607.
 fn is_short(kind: u8, v: usize, last: usize) -> bool
     ensures { result ≡ sound_short last kind v }
 {
-    ((kind == 1) & (v <= LARGEST)) | ((kind == 2) & (v <= last))
+    ((kind == 1) & (v <= 2 * components::ZERO)) | ((kind == 2) & (v <= last))
 }
 
-// How many cells the component in front takes, where it is whole and without fault. `marks` is the table of characters by byte.
-fn front_size(b: &[u8], last: usize, marks: &[u8]) -> Option<usize>
-    requires { (0 < length b.now) × (marks.now ≡ known_marks) }
+// How many cells the component in front takes, where it is whole and without fault.
+fn front_size(b: &[u8], last: usize) -> Option<usize>
+    requires { 0 < length b.now }
     ensures { FrontSize last b.now result }
 {
     let n = components::size_by(b[0]);
@@ -27,30 +23,22 @@ fn front_size(b: &[u8], last: usize, marks: &[u8]) -> Option<usize>
     if b[0] == 0 {
         return is_short(b[1], cells::three_at(b, 2), last).then_some(n);
     }
-    characters::are_known(&b[1..n], marks).then_some(n)
+    characters::all_known(&b[1..n]).then_some(n)
 }
 
-fn components_by(b: &[u8], last: usize, marks: &[u8]) -> bool
-    requires { (last ≤ 8388607) × (marks.now ≡ known_marks) }
+// Whether the cells are whole components without faults, where `last` is the last address given.
+pub fn are_components(b: &[u8], last: usize) -> bool
+    requires { last ≤ 8388607 }
     ensures { result ≡ sound_components last b.now }
 {
     let mut rest = b;
     while !rest.is_empty() {
-        let Some(n) = front_size(rest, last, marks) else {
+        let Some(n) = front_size(rest, last) else {
             return false;
         };
         rest = &rest[n..];
     }
     true
-}
-
-// Whether the cells are whole components without faults, where `last` is the last address given.
-#[tactic(auto, unfolding(characters::specs::Characters::known_marks))]
-pub fn are_components(b: &[u8], last: usize) -> bool
-    requires { last ≤ 8388607 }
-    ensures { result ≡ sound_components last b.now }
-{
-    components_by(b, last, &characters::MARKS)
 }
 
 fn is_given(n: usize, last: usize) -> bool

@@ -1,5 +1,5 @@
 -- Question 62, asked of the cells t of a program table: counts, the cells behind each part, texts, numbers, labels, switches and instructions.
-use Rattle.std.specs.Prelude.{Bool, not, ◌&&◌, List, ℕ, zero, suc, ◌+◌, ◌*◌, ◌-◌, ◌%◌, ◌≤◌, leb, ltb, eqb, length}
+use Rattle.std.specs.Prelude.{Bool, not, ◌&&◌, List, ℕ, zero, suc, ◌+◌, ◌*◌, ◌-◌, ◌%◌, ◌≤◌, leb, ltb, eqb}
 use Rattle.language.specs.Limits as limit
 use Rattle.forms.specs.Forms.{ends}
 use Rattle.layout.specs.Cells.{cell}
@@ -8,9 +8,8 @@ use Rattle.packed.specs.Packed.{table_of}
 use Rattle.table.specs.Reads.{switch_first, switch_size}
 use Rattle.check_parts.specs.Parts.{passes, zeros, text_fits, texts_same, number_fits, label_fits, entry_fits, instr_fits}
 
--- a lent table is long enough, and its counts are within the limits
+-- the counts of a table are within the limits
 pub record Counted (c : List ℕ) : Type 0 where
-  pub long : limit.table ≤ length c
   pub code_few : cell (table_of c) 0 ≤ limit.instructions
   pub labels_few : cell (table_of c) 1 ≤ limit.labels
   pub switches_few : cell (table_of c) 2 ≤ limit.switches

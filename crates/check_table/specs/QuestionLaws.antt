@@ -353,7 +353,6 @@ module _ (c : List ℕ) where
     counted_of e =
         let n : Counts t full = counts-sound t full (subst T (sym e) tt) in
         record {
-          long = enough;
           code_few = n.code_few;
           labels_few = n.labels_few;
           switches_few = n.switches_few;

@@ -1,8 +1,8 @@
 -- One pupil: start, run, and Q1.
 use mathlib.Core.Path.{◌≡◌, refl, ap, sym, ◌∙◌, subst}
 use mathlib.Core.Bool.{Bool, true, false}
-use mathlib.Core.List.{List, [], ◌++◌}
-use Prim.Native.Nat.{ℕ}
+use mathlib.Core.List.{List, [], ◌∷◌, ◌++◌}
+use Prim.Native.Nat.{ℕ, ◌≤◌}
 use native.Mathlib.Nat.{add-zero}
 use native.Mathlib.Omega.{arith}
 use lib.Dec.{T}
@@ -22,13 +22,14 @@ use Rattle.layout.specs.Table.{program_of}
 use Rattle.layout.proofs.TableLaws.{table-facts}
 use Rattle.cells.specs.Cells.{pasted}
 use Rattle.calls.specs.Calls.{reply_number, reply_count, run_reply}
-use Rattle.running.specs.Running.{answer_number, run_on, Runnable, RanOn}
+use Rattle.running.specs.Running.{answer_number, stop_number, run_on, Runnable, RanOn}
 use Rattle.running.specs.declared.Ran.{Ran}
 use Rattle.viewing.specs.Viewing.{Rests, Shows}
-use Rattle.class_calls.specs.Class.{Pupil, inputs_of, shown, pupil}
+use Rattle.class_calls.specs.Class.{Pupil, inputs_of, shown, pupil, result_cells}
 use Rattle.class_calls.proofs.ClassLaws.{pupil-fine, from_start, memory-good, pupil-refused, pupil-accepted}
 use Rattle.class_running.specs.ClassRunning.{Showable, Shown, Seated, Answered}
-use Rattle.class_running.specs.declared.Told.{Told}
+use Rattle.calls.specs.declared.Question.TheVariants as code
+use Rattle.std.specs.Prelude.{Ok, Err}
 
 pub is_true : {b : Bool} → b ≡ true → T b
 is_true e = subst T (sym e) tt
@@ -44,16 +45,16 @@ count-told : (x : Answer) (n : ℕ) → reply_count (run_reply x n) ≡ n
 count-told pause n = refl
 count-told (stopped s) n = refl
 
+pub table-long : {c : List ℕ} {memory at bytes : ℕ} → Seated c memory at bytes → limit.table ≤ length c
+table-long {c} pre = (table-facts c pre.table).long
+
 module _ {c : List ℕ} {memory at bytes : ℕ} (pre : Seated c memory at bytes) (w : List ℕ) (b : ℕ) where
   -- "A refused input has count 0, an empty Q1"
-  pub refused-told : {x : Bool} {out : List ℕ} → x ≡ good_inputs (inputs_of w) → x ≡ false → {r : Told} → r ≡ record { number = 61; count = 0; length = 0 }
-      → Answered (pupil c w b) out at r out
-  refused-told {x} {out} e z {r} q =
+  pub refused-told : {x : Bool} {out : List ℕ} → x ≡ good_inputs (inputs_of w) → x ≡ false → Answered (pupil c w b) out at (Err code.Inputs) out
+  refused-told {x} {out} e z =
       let p : pupil c w b ≡ record { number = 61; count = 0; q1 = [] } = pupil-refused c w b pre.table (sym e ∙ z) in
       record {
-        number_is = ap (λ (t : Told). t.number) q ∙ ap (λ (y : Pupil). y.number) (sym p);
-        count_is = ap (λ (t : Told). t.count) q ∙ ap (λ (y : Pupil). y.count) (sym p);
-        length_is = ap (λ (t : Told). t.length) q ∙ ap (λ (y : Pupil). length y.q1) (sym p);
+        told_is = ap result_cells (sym p);
         is = sym (take-append-drop at out) ∙ ap (λ (k : ℕ). take at out ++ drop k out) (sym (add-zero at)) ∙ ap (λ (y : Pupil). pasted out at y.q1) (sym p);
       }
 
@@ -100,17 +101,17 @@ module _ {c : List ℕ} {memory at bytes : ℕ} (pre : Seated c memory at bytes)
       pub showable : Showable m₂ at bytes
       showable = record { rests = rests; room = pre.room }
 
-      pub answered : {out out' : List ℕ} {n : ℕ} → Shown m₂ out at n out' → {r : Told} → r ≡ record { number = t.number; count = t.count; length = n }
-          → Answered (pupil c w b) out at r out'
-      answered {out} {out'} {n} k {r} q =
+      pub answered : {out out' : List ℕ} {n : ℕ} → Shown m₂ out at n out' → Answered (pupil c w b) out at (Ok (record { ran = t; length = n })) out'
+      answered {out} {out'} {n} k =
           let p = pupil-accepted c w b pre.table (sym e ∙ z) in
           let y = x_run in
           let q1-is : shown m₂ ≡ (pupil c w b).q1 = ap (λ (u : State). get_or u.store.outputs 0 []) now-in ∙ ap (λ (u : Pupil). u.q1) (sym p) in
+          let number_is : stop_number t.stopped ≡ (pupil c w b).number =
+          h.tells.number_is ∙ ap (λ (u : Run State). answer_number u.answer) same-run ∙ sym (number-told y.answer y.count) ∙ ap (λ (u : Pupil). u.number) (sym p) in
+          let count_is : t.count ≡ (pupil c w b).count =
+          h.tells.count_is ∙ ap (λ (u : Run State). u.count) same-run ∙ sym (count-told y.answer y.count) ∙ ap (λ (u : Pupil). u.count) (sym p) in
+          let length_is : n ≡ length (pupil c w b).q1 = k.length_is ∙ ap length q1-is in
           record {
-            number_is = ap (λ (t : Told). t.number) q ∙ h.tells.number_is ∙ ap (λ (u : Run State). answer_number u.answer) same-run
-                ∙ sym (number-told y.answer y.count) ∙ ap (λ (u : Pupil). u.number) (sym p);
-            count_is = ap (λ (t : Told). t.count) q ∙ h.tells.count_is ∙ ap (λ (u : Run State). u.count) same-run
-                ∙ sym (count-told y.answer y.count) ∙ ap (λ (u : Pupil). u.count) (sym p);
-            length_is = ap (λ (t : Told). t.length) q ∙ k.length_is ∙ ap length q1-is;
+            told_is = λ i. number_is i ∷ count_is i ∷ length_is i ∷ [];
             is = k.is ∙ ap (pasted out at) q1-is;
           }

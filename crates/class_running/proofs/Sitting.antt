@@ -20,8 +20,11 @@ use Rattle.class_calls.proofs.ClassLaws.{q1-most}
 use Rattle.class_calls.proofs.FitLaws.{ClassFits, fits-facts}
 use Rattle.class_calls.proofs.UnawareLaws.{pupil-at, length-pupils, length_cut}
 use Rattle.class_calls.proofs.WritingLaws.{sum-next, sum-within, cut_at, results-none, results_next, AllShort, outputs-none, outputs-next}
-use Rattle.std.specs.Prelude.{Ok, Err}
-use Rattle.class_running.specs.ClassRunning.{Seated, Answered, Classable, Written, taken_by, Classes}
+use Rattle.calls.specs.Questions.{numbered}
+use Rattle.calls.specs.declared.Question.{Question}
+use Rattle.calls.specs.declared.Question.TheVariants as code
+use Rattle.std.specs.Prelude.{Result, Ok, Err}
+use Rattle.class_running.specs.ClassRunning.{told_cells, Seated, Answered, Classable, Written, taken_by, Classes}
 use Rattle.class_running.specs.declared.Told.{Told}
 
 all_short : (c : List ℕ) → T (good_table c) → (ws : List (List ℕ)) (bs : List ℕ) (k : ℕ) → AllShort (take k (pupils c ws bs))
@@ -96,16 +99,13 @@ module _ {c s ns bs res₀ out₀ : List ℕ} {memory₀ : ℕ} (pre : Classable
       had : length (take k ps) ≡ k
       had = length-take-le k ps (omega (arith, h, many))
 
-      module _ {t : Told} {out' res' : List ℕ} (a : Answered (pupil c (take ((from + n) - from) (drop from s)) (get_or bs k 0)) out (limit.output * k) t out')
-          (w : res' ≡ pasted res (3 * k) (t.number ∷ t.count ∷ t.length ∷ [])) where
+      module _ {t : Result Told Question} {out' res' : List ℕ} (a : Answered (pupil c (take ((from + n) - from) (drop from s)) (get_or bs k 0)) out (limit.output * k) t out')
+          (w : res' ≡ pasted res (3 * k) (told_cells t)) where
         abbrev p : Pupil
         p = get_or ps k (refused_pupil 0)
 
-        cells_are : t.number ∷ t.count ∷ t.length ∷ [] ≡ result_cells p
-        cells_are =
-            ap (λ (x : ℕ). x ∷ t.count ∷ t.length ∷ []) (a.number_is ∙ ap (λ (y : Pupil). y.number) its-pupil)
-            ∙ ap (λ (x : ℕ). p.number ∷ x ∷ t.length ∷ []) (a.count_is ∙ ap (λ (y : Pupil). y.count) its-pupil)
-            ∙ ap (λ (x : ℕ). p.number ∷ p.count ∷ x ∷ []) (a.length_is ∙ ap (λ (y : Pupil). length y.q1) its-pupil)
+        cells_are : told_cells t ≡ result_cells p
+        cells_are = a.told_is ∙ ap result_cells its-pupil
 
         p-short : length p.q1 ≤ limit.output
         p-short = subst (λ (y : Pupil). length y.q1 ≤ limit.output) its-pupil (q1-most c (take ((from + n) - from) (drop from s)) (get_or bs k 0) pre.table)
@@ -152,7 +152,7 @@ module _ (c s ns bs res out : List ℕ) where
       ap (λ (x : Bool). if_any (taken (pupils c (cut_by ns s) bs)) class_refused (refusals ((62, x) ∷ (71, class_fits lent) ∷ []))) e
       ∙ ap (λ (x : Bool). if_any (taken (pupils c (cut_by ns s) bs)) class_refused (refusals ((62, a) ∷ (71, x) ∷ []))) f
 
-  classes : {x : ClassReply} → class_of c lent ≡ x → {r : Taken} {res' out' : List ℕ} → r ≡ taken_by x → res' ≡ results_after x res → out' ≡ outputs_after x out
+  classes : {x : ClassReply} → class_of c lent ≡ x → {r : Taken} {res' out' : List ℕ} → numbered r ≡ taken_by x → res' ≡ results_after x res → out' ≡ outputs_after x out
       → Classes c lent r res' out'
   classes {x} e p q t = record {
     is = p ∙ ap taken_by (sym e);
@@ -160,11 +160,11 @@ module _ (c s ns bs res out : List ℕ) where
     outputs_are = t ∙ ap (λ (y : ClassReply). outputs_after y out) (sym e);
   }
 
-  pub no_table : {x : Bool} → x ≡ good_table c → x ≡ false → Classes c lent (Err (record { number = 62 })) res out
+  pub no_table : {x : Bool} → x ≡ good_table c → x ≡ false → Classes c lent (Err code.Table) res out
   no_table e z = classes (by false (class_fits lent) (sym e ∙ z) refl) refl refl refl
 
   module _ {x : Bool} (e : x ≡ good_table c) (z : x ≡ true) where
-    pub no-fit : {y : Bool} → y ≡ class_fits lent → y ≡ false → Classes c lent (Err (record { number = 71 })) res out
+    pub no-fit : {y : Bool} → y ≡ class_fits lent → y ≡ false → Classes c lent (Err code.Class) res out
     no-fit f w = classes (by true false (sym e ∙ z) (sym f ∙ w)) refl refl refl
 
     module _ {y : Bool} (f : y ≡ class_fits lent) (w : y ≡ true) where

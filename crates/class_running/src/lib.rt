@@ -1,23 +1,24 @@
 // A class of sixteen: one program on the work of up to sixteen pupils.
 #![tactic(auto)]
 
-ghost use Rattle.std.specs.Prelude.{◌≡◌, [], ◌∷◌, ◌+◌, ◌≤◌, length};
+ghost use Rattle.std.specs.Prelude.{◌≡◌, ◌+◌, ◌≤◌, length};
 ghost use Rattle.cells.specs.Cells.{pasted};
 ghost use Rattle.class_calls.specs.Class.{pupil, sum, fits_by, lent_of};
-ghost use Rattle.class_running.specs.ClassRunning.{Showable, Shown, Seated, Answered, Classable, Written, Classes};
+ghost use Rattle.class_running.specs.ClassRunning.{told_cells, Showable, Shown, Seated, Answered, Classable, Written, Classes};
 
-use calls::Refused;
+use calls::Question;
 use language::Machine;
+use running::Ran;
+use tasks::Task;
+use tasks::from_table::Table;
 
 // The most pupils of a class.
 const CLASS: usize = 16;
 
-// Number, count and length of Q1, as the results for C have them: 61, 0 and 0 for a refused input.
-// No `running::Ran` inside: each use would name both, and a refused input has no run.
+// What is told of a pupil: its run, and the length of Q1.
 #[derive(Clone, Copy, Debug, PartialEq, Eq)]
 pub struct Told {
-    pub number: u8,
-    pub count: u32,
+    pub ran: Ran,
     pub length: u32,
 }
 
@@ -52,44 +53,52 @@ fn show(state: &[u8], out: &mut [u8], at: usize) -> u32
 }
 
 // Start and run for one pupil, with Q1 copied to its part of the buffer.
-fn run_pupil(
-    table: &[u32],
-    input: &[u8],
+fn run_pupil<'a>(
+    table: &'a [u32],
+    input: &'a [u8],
     budget: u32,
     state: &mut [u8],
     out: &mut [u8],
     at: usize,
-) -> Told
+) -> Result<Told, Question>
     requires { Seated table.now (length state.old) at (length out.old) }
     ensures { Answered (pupil table.now input.now budget) out.old at result out.new }
 {
     if !check_inputs::are_inputs(input, b"") {
-        return Told {
-            number: 61,
-            count: 0,
-            length: 0,
-        };
+        return Err(Question::Inputs);
     }
     starting::start(state);
-    let r = running::run(table, input, b"", state, budget);
-    let shown = show(state, out, at);
-    Told {
-        number: r.number,
-        count: r.count,
-        length: shown,
+    let task = Task {
+        table: Table { cells: table },
+        first: input,
+        second: b"",
+    };
+    let ran = running::run(task, state, budget);
+    let length = show(state, out, at);
+    Ok(Told { ran, length })
+}
+
+// Number, count and length of Q1, as the results for C have them: "A refused input has count 0, an empty Q1".
+fn result_cells(told: Result<Told, Question>) -> [u32; 3]
+    ensures { result ≡ told_cells told }
+{
+    match told {
+        Ok(t) => [u32::from(t.ran.number()), t.ran.count, t.length],
+        Err(q) => [u32::from(u8::from(q)), 0, 0],
     }
 }
 
 // Writes number, count and length to three cells.
-fn write_result(results: &mut [u32], at: usize, told: Told)
+fn write_result(results: &mut [u32], at: usize, told: Result<Told, Question>)
     requires { at + 3 ≤ length results.old }
-    ensures { results.new ≡ pasted results.old at (told.number ∷ told.count ∷ told.length ∷ []) }
+    ensures { results.new ≡ pasted results.old at (told_cells told) }
 {
-    results[at..at + 3].copy_from_slice(&[u32::from(told.number), told.count, told.length]);
+    results[at..at + 3].copy_from_slice(&result_cells(told));
 }
 
 // One pupil after the other.
 // The C call lends inputs, lengths, budgets, results and buffer side by side, so they come so here and in `run_class`.
+// No `zip` with the budgets: the index is needed for the part of the results and of the buffer, and finds the budget too.
 fn run_pupils(
     table: &[u32],
     inputs: &[u8],
@@ -127,11 +136,11 @@ pub fn run_class(
     budgets: &[u32],
     results: &mut [u32],
     out: &mut [u8],
-) -> Result<(), Refused>
+) -> Result<(), Question>
     ensures { Classes table.now (lent_of inputs.now lengths.now budgets.now results.old out.old) result results.new out.new }
 {
     if !check_table::is_table(table) {
-        return Err(Refused { number: 62 });
+        return Err(Question::Table);
     }
     if !fits(
         lengths,
@@ -140,7 +149,7 @@ pub fn run_class(
         results.len(),
         out.len(),
     ) {
-        return Err(Refused { number: 71 });
+        return Err(Question::Class);
     }
     let mut state = [0u8; Machine::STATE];
     run_pupils(table, inputs, lengths, budgets, &mut state, results, out);

@@ -7,7 +7,7 @@ ghost use Rattle.console.specs.Parts.{TextEnd, Put, Room, RefusalRoom, EndRoom, 
 
 const KONP: [u8; 4] = *b"KONP";
 
-// The number of a pause, as the C call tells it.
+// The number of a pause, as the C call tells it. Not a constant of `running`: for one number the console would stand on the whole run.
 const PAUSE: usize = 81;
 
 // Whether a line is one "starting with KONP".
@@ -33,7 +33,8 @@ pub fn text_end(input: &[u8]) -> usize
 }
 
 // Writes bytes from index `at` on, and tells the index behind them.
-// `out` and `at` are no struct: that would hold a lent slice, and each promise would speak of its two fields.
+// `out` and `at` are no struct, here and below: `out` is lent by `eol2` and `vectors`, a struct that holds a `&mut` has no model, and without one each
+// promise would speak of its two fields.
 pub fn put(out: &mut [u8], at: usize, bytes: &[u8]) -> usize
     requires { at + length bytes.now ≤ length out.old }
     ensures { Put out.old at bytes.now out.new result }
@@ -48,7 +49,7 @@ fn put_field(out: &mut [u8], at: usize, name: &[u8], n: usize) -> usize
     ensures { Put out.old at (field name.now n) out.new result }
 {
     let mut digits = [0u8; 8];
-    let count = decimals::put_decimal(&mut digits, n + 8388607);
+    let count = decimals::put_decimal(&mut digits, n + components::ZERO);
     let next = put(out, at, name);
     put(out, next, &digits[..count])
 }

@@ -377,7 +377,7 @@ module _ (d : List ℕ) (to : ℕ) (text : List ℕ) (at n j : ℕ) (t : List �
   read-stops h = sym (digits-stop text at n j more k (byte-over u v (rw (← e) h)))
 
 -- all n bytes are read
-pub read_all : (d : List ℕ) (to : ℕ) (text : List ℕ) (at n j : ℕ) (t : List ℕ) → Read d to text at j t → j ≤ n → n ≤ j → Got d to text at n true t
+pub read_all : (d : List ℕ) (to : ℕ) (text : List ℕ) (at n j : ℕ) (t : List ℕ) → Read d to text at j t → j ≤ n → n ≤ j → Got d to text at n (Some tt) t
 read_all d to text at n j t r h k =
     let q : j ≡ n = omega arith in
     record {

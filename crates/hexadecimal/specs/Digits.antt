@@ -1,5 +1,6 @@
 -- Two digits as a byte, and a run of digits as bytes.
-use Rattle.std.specs.Prelude.{◌≡◌, Option, Some, None, Bool, cond, ◌&&◌, List, ℕ, ◌+◌, ◌*◌, ◌≤◌, T, take, drop}
+use Rattle.std.specs.Prelude.{◌≡◌, Option, Some, None, cond, ◌&&◌, List, ℕ, ◌+◌, ◌*◌, ◌≤◌, T, take, drop}
+use Rattle.std.specs.Option.{is_some}
 use Rattle.lists.specs.Lists.{all}
 use Rattle.cells.specs.Cells.{pasted}
 use Rattle.state_frames.specs.Hexadecimal.{digit_value, is_digit, bytes_in}
@@ -24,7 +25,7 @@ pub record Gettable (room to long at n : ℕ) : Type 0 where
 abbrev pub digits_at : List ℕ → ℕ → ℕ → List ℕ
 digits_at text at n = take (2 * n) (drop at text)
 
--- r says whether they are all digits; then their bytes stand in d' from `to` on
-pub record Got (d : List ℕ) (to : ℕ) (text : List ℕ) (at n : ℕ) (r : Bool) (d' : List ℕ) : Type 0 where
-  pub told : r ≡ all is_digit (digits_at text at n)
-  pub bytes : T r → d' ≡ pasted d to (bytes_in (digits_at text at n))
+-- r is there where they are all digits; then their bytes stand in d' from `to` on
+pub record Got (d : List ℕ) (to : ℕ) (text : List ℕ) (at n : ℕ) (r : Option (Unit {0})) (d' : List ℕ) : Type 0 where
+  pub told : is_some r ≡ all is_digit (digits_at text at n)
+  pub bytes : T (is_some r) → d' ≡ pasted d to (bytes_in (digits_at text at n))

@@ -58,18 +58,16 @@ pub fn byte_at(text: &[u8], at: usize) -> Option<u8>
     Some(16 * high + low)
 }
 
-// Copies the `n` bytes of the digits from `at` on into `dst` from `to` on, and tells whether they are all digits; there is no value to give besides.
-pub fn get_bytes(dst: &mut [u8], to: usize, text: &[u8], at: usize, n: usize) -> bool
+// Copies the `n` bytes of the digits from `at` on into `dst` from `to` on, if they are all digits.
+pub fn get_bytes(dst: &mut [u8], to: usize, text: &[u8], at: usize, n: usize) -> Option<()>
     requires { Gettable (length dst.old) to (length text.now) at n }
     ensures { Got dst.old to text.now at n result dst.new }
 {
     for j in 0..n {
-        let Some(b) = byte_at(text, at + 2 * j) else {
-            return false;
-        };
+        let b = byte_at(text, at + 2 * j)?;
         dst[to + j] = b;
     }
-    true
+    Some(())
 }
 
 // `s` and the bytes of `src` added, modulo 256.

@@ -13,7 +13,7 @@ use Rattle.machine.specs.Runs.{Answer}
 use Rattle.machine.specs.Runs.Answer.{pause, stopped}
 use Rattle.layout.specs.Memory.{state_of, good_memory, written}
 use Rattle.layout.specs.Table.{program_of, good_table}
-use Rattle.class_running.specs.Below.Running.{answer_number, run_on, Runnable, RanOn}
+use Rattle.class_running.specs.Below.Running.{answer_number, stop_number, run_on, Runnable, RanOn}
 use Rattle.class_running.specs.Below.Ran.{Ran}
 use Rattle.calls.specs.Calls.{packed, Call, call_inputs, Result, reply_number, reply_count, reply_answer, memory_passes, run_reply, result_of, start_of, run_of}
 use Rattle.calls.specs.Calls.Call.{start_on}
@@ -68,7 +68,7 @@ module _ (c i j m : List ℕ) (budget : ℕ) {k : ℕ} (told : k ≡ first_no c 
     pub runnable : Runnable c i j m
     runnable = record { table = asked.table; right = asked.inputs; memory = subst T (sym g ∙ is) tt }
 
-    pub run-made : {t : Ran} {m' : List ℕ} → RanOn c i j budget m t m' → {r : ℕ} → r ≡ packed t.number t.count → Answers (run_of c (i ∷ j ∷ []) budget m) r m'
+    pub run-made : {t : Ran} {m' : List ℕ} → RanOn c i j budget m t m' → {r : ℕ} → r ≡ packed (stop_number t.stopped) t.count → Answers (run_of c (i ∷ j ∷ []) budget m) r m'
     run-made {t} h w =
         let x = run_on c i j budget (state_of m) in
         let y = both_yes c (i ∷ j ∷ []) told none in

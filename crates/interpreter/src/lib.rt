@@ -5,6 +5,7 @@ ghost use Rattle.std.specs.Prelude.{◌≡◌, [], ◌∷◌, length};
 ghost use Rattle.class_calls.specs.Class.{lent_of};
 ghost use Rattle.calls.specs.Calls.{packed, start_of, run_of};
 ghost use Rattle.calls.specs.Filling.{Fills, filled_number, filled_count, taken_number};
+ghost use Rattle.calls.specs.Questions.{question_number};
 ghost use Rattle.editions.specs.Convert.{convert_of};
 ghost use Rattle.macros.specs.Load.{load_in};
 ghost use Rattle.shortening.specs.Below.Told.{loaded_number, loaded_line};
@@ -12,11 +13,12 @@ ghost use Rattle.shortening.specs.Trying.{shortened_number, shortened_filled};
 ghost use Rattle.state_frames.specs.Keeping.{write_of, read_of, Reads};
 ghost use Rattle.interpreter.specs.Answers.{Answers, AnswersLoad, AnswersShorten, AnswersClass};
 
-use calls::{Filled, Refused};
+use calls::{Filled, Question};
 use class_running::from_running;
 use language::Machine;
 use shortening::{Shortened, from_macro_loading};
 use state_restoring::from_state_saving;
+use tasks::Lent;
 use translating::from_loading::Loaded;
 
 // The number of an accepted call.
@@ -29,23 +31,30 @@ fn packed(number: u8, value: u32) -> u64
     u64::from(number) * 4294967296 + u64::from(value)
 }
 
+// A question answered no, without line or count.
+fn packed_no(q: Question) -> u64
+    ensures { result ≡ packed (question_number q) 0 }
+{
+    packed(u8::from(q), 0)
+}
+
 // The number of a text.
 fn number(loaded: Loaded) -> u8
     ensures { result ≡ loaded_number loaded }
 {
     match loaded {
         Ok(()) => ACCEPTED,
-        Err(r) => r.number,
+        Err(r) => u8::from(r.question),
     }
 }
 
 // "Accepted is 80 (load: line 0)"
-fn packed_loaded(r: Loaded) -> u64
-    ensures { result ≡ packed (loaded_number r) (loaded_line r) }
+fn packed_loaded(loaded: Loaded) -> u64
+    ensures { result ≡ packed (loaded_number loaded) (loaded_line loaded) }
 {
-    match r {
+    match loaded {
         Ok(()) => packed(ACCEPTED, 0),
-        Err(e) => packed(e.number, e.line),
+        Err(r) => packed(u8::from(r.question), r.line),
     }
 }
 
@@ -55,28 +64,25 @@ fn packed_filled(r: Filled) -> u64
 {
     match r {
         Ok(count) => packed(ACCEPTED, count),
-        Err(e) => packed(e.number, 0),
+        Err(q) => packed_no(q),
     }
 }
 
-// The same of a part, with the number of its text.
-fn packed_shortened(r: Result<Shortened, Refused>) -> u64
+// The same of a part, with the number of its text. Not one function with `packed_filled`: the number of an accepted call is another.
+fn packed_shortened(r: Result<Shortened, Question>) -> u64
     ensures { result ≡ packed (shortened_number r) (filled_count (shortened_filled r)) }
 {
     match r {
         Ok(part) => packed(number(part.loaded), part.count),
-        Err(e) => packed(e.number, 0),
+        Err(q) => packed_no(q),
     }
 }
 
-// Of a class, or of a state that is read.
-fn packed_taken(r: Result<(), Refused>) -> u64
+// Of a class, or of a state that is read: there is nothing to count.
+fn packed_taken(r: Result<(), Question>) -> u64
     ensures { result ≡ packed (taken_number r) 0 }
 {
-    match r {
-        Ok(()) => packed(ACCEPTED, 0),
-        Err(e) => packed(e.number, 0),
-    }
+    packed_filled(r.map(|()| 0))
 }
 
 // The number and the line of a text: "Accepted is 80 (load: line 0)".
@@ -107,11 +113,16 @@ pub fn eol2_shorten(text: &[u8], table: &mut [u32], out: &mut [u8]) -> u64
 pub fn eol2_start(table: &[u32], i1: &[u8], i2: &[u8], state: &mut [u8]) -> u64
     ensures { Answers (start_of table.now (i1.now ∷ i2.now ∷ []) state.old) result state.new }
 {
-    if let Err(no) = check_calls::ask(table, i1, i2) {
-        return packed(u8::from(no), 0);
+    let lent = Lent {
+        table,
+        first: i1,
+        second: i2,
+    };
+    if let Err(no) = check_calls::ask(lent) {
+        return packed_no(no);
     }
     if state.len() < Machine::STATE {
-        return packed(63, 0);
+        return packed_no(Question::State);
     }
     starting::start(state);
     packed(ACCEPTED, 0)
@@ -121,14 +132,20 @@ pub fn eol2_start(table: &[u32], i1: &[u8], i2: &[u8], state: &mut [u8]) -> u64
 pub fn eol2_run(table: &[u32], i1: &[u8], i2: &[u8], state: &mut [u8], budget: u32) -> u64
     ensures { Answers (run_of table.now (i1.now ∷ i2.now ∷ []) budget state.old) result state.new }
 {
-    if let Err(no) = check_calls::ask(table, i1, i2) {
-        return packed(u8::from(no), 0);
+    let lent = Lent {
+        table,
+        first: i1,
+        second: i2,
+    };
+    let task = match check_calls::ask(lent) {
+        Ok(task) => task,
+        Err(no) => return packed_no(no),
+    };
+    if !check_state::is_state(task, state) {
+        return packed_no(Question::State);
     }
-    if !check_state::is_state(table, i1, i2, state) {
-        return packed(63, 0);
-    }
-    let r = from_running::run(table, i1, i2, state, budget);
-    packed(r.number, r.count)
+    let r = from_running::run(task, state, budget);
+    packed(r.number(), r.count)
 }
 
 // The number, and how many bytes of the buffer are the state as lines of frames: "An ill-formed state to write, or memory too short, brings 63; the
@@ -136,14 +153,24 @@ pub fn eol2_run(table: &[u32], i1: &[u8], i2: &[u8], state: &mut [u8], budget: u
 pub fn eol2_write_state(table: &[u32], i1: &[u8], i2: &[u8], state: &[u8], out: &mut [u8]) -> u64
     ensures { Fills (write_of table.now (i1.now ∷ i2.now ∷ []) state.now (length out.old)) result out.old out.new }
 {
-    packed_filled(from_state_saving::write_state(table, i1, i2, state, out))
+    let lent = Lent {
+        table,
+        first: i1,
+        second: i2,
+    };
+    packed_filled(from_state_saving::write_state(lent, state, out))
 }
 
 // The number; the state is the one that the lines of frames give. "A refused call changes nothing."
 pub fn eol2_read_state(table: &[u32], i1: &[u8], i2: &[u8], saved: &[u8], state: &mut [u8]) -> u64
     ensures { Reads (read_of table.now (i1.now ∷ i2.now ∷ []) saved.now state.old) result state.new }
 {
-    packed_taken(state_restoring::read_state(table, i1, i2, saved, state))
+    let lent = Lent {
+        table,
+        first: i1,
+        second: i2,
+    };
+    packed_taken(state_restoring::read_state(lent, saved, state))
 }
 
 // The number; for each pupil of a class three numbers of the results and a part of the buffer: "the answer, count, Q1 and its length that a separate

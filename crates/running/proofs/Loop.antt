@@ -25,7 +25,7 @@ use Rattle.state.specs.Working.{HoldsState}
 use Rattle.language.specs.Limits as limit
 use Rattle.stepping.specs.Below.Stepping.{inputs, Steppable, Stepped}
 use Rattle.stepping.specs.Below.SteppingLaws as laws
-use Rattle.running.specs.Running.{run_on, RanTo, Runnable, RanOn}
+use Rattle.running.specs.Running.{stop_number, run_on, RanTo, Runnable, RanOn}
 use Rattle.running.specs.declared.Ran.{Ran}
 
 -- after `count` steps from the state s₀ a well-formed state is held
@@ -61,14 +61,14 @@ module _ {c i j : List ℕ} {s₀ σ : State} {count budget : ℕ} (u : Going c 
       }
 
   -- a stop
-  pub ran-stop : (told ≡ 0 → ⊥) → {r : Ran} → r.number ≡ told → r.count ≡ count → RanTo c i j budget s₀ r σ'
+  pub ran-stop : (told ≡ 0 → ⊥) → {r : Ran} → stop_number r.stopped ≡ told → r.count ≡ count → RanTo c i j budget s₀ r σ'
   ran-stop w {r} x y =
       let e : run_on c i j budget s₀ ≡ ran (stopped told) count σ =
       run-stop (step P (inputs i j)) budget u.goes b (laws.stopped h w) in
       record { tells = record { number_is = rw e x; count_is = rw e y }; holds = rw e (laws.kept h w) }
 
 module _ {c i j : List ℕ} {s₀ σ : State} {count budget : ℕ} (u : Going c i j s₀ σ count budget) where
-  pub ran-pause : budget ≤ count → {r : Ran} → r.number ≡ 81 → r.count ≡ budget → RanTo c i j budget s₀ r σ
+  pub ran-pause : budget ≤ count → {r : Ran} → stop_number r.stopped ≡ 81 → r.count ≡ budget → RanTo c i j budget s₀ r σ
   ran-pause b {r} x y =
       let q : count ≡ budget = omega (arith, u.most) in
       let e : run_on c i j budget s₀ ≡ ran pause budget σ = rw (← q) (run-pause (step (program_of c) (inputs i j)) u.goes) in
@@ -79,9 +79,6 @@ module _ {c i j : List ℕ} {s₀ σ : State} {count budget : ℕ} (u : Going c 
 module _ {c i j m : List ℕ} (pre : Runnable c i j m) where
   abbrev program_good : T (good_program (program_of c))
   program_good = (table-facts c pre.table).good
-
-  pub table-long : limit.table ≤ length c
-  table-long = (table-facts c pre.table).long
 
   pub openable : Openable m
   openable =

@@ -1,5 +1,7 @@
 -- What a run on the state at work and on lent memory asks and promises.
-use Rattle.std.specs.Prelude.{◌≡◌, List, ℕ, T}
+use Rattle.std.specs.Prelude.{◌≡◌, Option, None, Some, List, ℕ, T}
+use Rattle.instructions.specs.Questions.{question_number}
+use Rattle.instructions.specs.declared.Question.{Question}
 use Rattle.language.specs.Values.{State}
 use Rattle.machine.specs.Runs.{Answer, Run, run}
 use Rattle.machine.specs.Runs.Answer.{pause, stopped}
@@ -16,13 +18,18 @@ abbrev pub answer_number : Answer → ℕ
 answer_number pause = 81
 answer_number (stopped n) = n
 
+-- the same of the question that stopped a run, none for a pause
+abbrev pub stop_number : Option Question → ℕ
+stop_number None = 81
+stop_number (Some q) = question_number q
+
 -- the run of a program on a state
 abbrev pub run_on : List ℕ → List ℕ → List ℕ → ℕ → State → Run State
 run_on c i j budget s = run (step (program_of c) (inputs i j)) budget s
 
 -- what is told of a run
 pub record Tells (x : Run State) (r : Ran) : Type 0 where
-  pub number_is : r.number ≡ answer_number x.answer
+  pub number_is : stop_number r.stopped ≡ answer_number x.answer
   pub count_is : r.count ≡ x.count
 
 pub record RanTo (c i j : List ℕ) (budget : ℕ) (σ : State) (r : Ran) (σ' : State) : Type 0 where

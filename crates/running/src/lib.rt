@@ -2,22 +2,31 @@
 #![tactic(auto)]
 
 ghost use Rattle.stepping.specs.Below.Stepping.{Steppable};
-ghost use Rattle.running.specs.Running.{RanTo, Runnable, RanOn};
+ghost use Rattle.std.specs.Prelude.{◌≡◌};
+ghost use Rattle.running.specs.Running.{stop_number, RanTo, Runnable, RanOn};
 
-use instructions::{Bench, Task};
+use instructions::{Bench, Question, Task};
 use layout::StatePlaces;
 use state::Working;
 use strings::Strings;
-use table::Table;
 
 // The number of a pause.
 const PAUSE: u8 = 81;
 
-// The answer of a run, as the C call tells it: 81 for a pause, or the number of a stop; and how many instructions were completed.
+// The answer of a run: the question that stopped it, none for a pause; and how many instructions were completed.
 #[derive(Clone, Copy, Debug, PartialEq, Eq)]
 pub struct Ran {
-    pub number: u8,
+    pub stopped: Option<Question>,
     pub count: u32,
+}
+
+impl Ran {
+    // The number that C gets.
+    pub fn number(self) -> u8
+        ensures { result ≡ stop_number self.stopped }
+    {
+        self.stopped.map_or(PAUSE, u8::from)
+    }
 }
 
 // Steps until the count equals the budget, or an instruction stops.
@@ -28,21 +37,21 @@ fn run_steps(task: Task, bench: &mut Bench, budget: u32) -> Ran
     for count in 0..budget {
         if let Err(q) = stepping::step(task, bench) {
             return Ran {
-                number: u8::from(q),
+                stopped: Some(q),
                 count,
             };
         }
     }
     Ran {
-        number: PAUSE,
+        stopped: None,
         count: budget,
     }
 }
 
 // Runs the program of a well-formed table on a well-formed state.
-pub fn run<'a>(table: &'a [u32], i1: &'a [u8], i2: &'a [u8], state: &mut [u8], budget: u32) -> Ran
-    requires { Runnable table.now i1.now i2.now state.old }
-    ensures { RanOn table.now i1.now i2.now budget state.old result state.new }
+pub fn run(task: Task, state: &mut [u8], budget: u32) -> Ran
+    requires { Runnable task.table.cells.now task.first.now task.second.now state.old }
+    ensures { RanOn task.entry.table.cells.now task.entry.first.now task.entry.second.now budget state.old result state.new }
 {
     let strings = Strings::new();
     let nums = [0; StatePlaces::SCALARS_COUNT];
@@ -54,11 +63,6 @@ pub fn run<'a>(table: &'a [u32], i1: &'a [u8], i2: &'a [u8], state: &mut [u8], b
         given,
     };
     resting::open(&mut bench.state, state);
-    let task = Task {
-        table: Table { cells: table },
-        first: i1,
-        second: i2,
-    };
     let r = run_steps(task, &mut bench, budget);
     resting::write(&bench.state, state);
     r

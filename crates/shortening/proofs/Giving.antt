@@ -18,9 +18,14 @@ use Rattle.calls.specs.Calls.{load_number, table_after}
 use Rattle.calls.specs.Filling.{Filling, filling_number, filled_in, filled_of}
 use Rattle.calls.specs.Filling.Filling.{kept, fills}
 use Rattle.calls.proofs.LoadLaws.{load-accepts}
-use Rattle.macro_loading.specs.Below.Rejected.{Rejected}
+use Rattle.statements.specs.declared.Rejected.{Rejected}
 use Rattle.macro_loading.specs.Below.Told as answer
-use Rattle.macro_loading.specs.Below.Told.{told, loaded_number}
+use Rattle.macro_loading.specs.Below.Told.{numbered, told, loaded_number}
+use Rattle.macro_loading.specs.Below.ToldLaws.{number-told}
+use Rattle.statements.specs.Questions.{question_number}
+use Rattle.std.proofs.Common.{eqb-true}
+use Rattle.shortening.proofs.Cutting.{by-number}
+use Rattle.calls.specs.declared.Question.TheVariants as code
 use Rattle.macro_loading.specs.Loading.{Loads}
 use Rattle.macros.specs.Load.{loaded, load_in, load_of}
 use Rattle.macros.specs.Prepared.{prepared}
@@ -34,8 +39,7 @@ use Rattle.shorten_calls.specs.Shortening.{rounds, part, brings_40, shorten_of, 
 use Rattle.text_lines.specs.LineLaws.{joined-lines}
 use Rattle.text_lines.specs.Lines.{lines}
 use Rattle.std.specs.Prelude.{Ok, Err, is_ok}
-use Rattle.shortening.proofs.Cutting.{number-told}
-use Rattle.shortening.specs.Trying.{Finished, Givable, Given, RefusedText, Answer, Shortens, Tryable}
+use Rattle.shortening.specs.Trying.{refused_with, Finished, Givable, Given, RefusedText, Answer, Shortens, Tryable}
 use Rattle.shortening.specs.declared.Shortened.{Shortened}
 
 -- ---- load: what 40 is of, and what the table is afterwards
@@ -84,7 +88,7 @@ front-copied {m} {s} b e = let z : length s ≡ 0 + length s = omega arith in λ
 
 pub given : {p c c' b b' : List ℕ} {l : answer.Loaded} {r : Shortened} → Loads p c l c' → b' ≡ pasted b 0 p → r.loaded ≡ l → r.count ≡ length p → Given p c b r c' b'
 given {p} {c} {c'} {b} {b'} {l} {r} h w e f =
-    record { loaded_is = e ∙ h.is; count_is = f; table_is = h.cells_are; cells_are = w ∙ ap (λ (n : ℕ). p ++ drop n b) (zero-add (length p)) }
+    record { loaded_is = ap numbered e ∙ h.is; count_is = f; table_is = h.cells_are; cells_are = w ∙ ap (λ (n : ℕ). p ++ drop n b) (zero-add (length p)) }
 
 -- on a table whose first cells are others
 given-same : {p c d c' b b' : List ℕ} {r : Shortened} → length d ≡ length c → drop limit.table d ≡ drop limit.table c → load_number (load_in (length c) p) ≢ 40
@@ -104,7 +108,7 @@ module _ (s c b : List ℕ) where
   number = load_number (load_in (length c) s)
 
   abbrev refused-40 : Answer
-  refused-40 = Err (record { number = 40 })
+  refused-40 = Err code.Size
 
   short-40 : brings_40 (length c) (length b) s ≡ true → Shortens s c b refused-40 c b
   unfolding shorten_of table_shortened filled_in
@@ -134,7 +138,7 @@ module _ (s c b : List ℕ) where
         let f : shorten_of (length c) (length b) s ≡ fills number (part (length c) s) = ap (λ (t : Bool). cond t (kept 40) (fills number (part (length c) s))) (none-40 room) in
         record {
           result_is = ap Ok (g.count_is ∙ ap length e) ∙ ap filled_of (sym f);
-          number_is = ap loaded_number g.loaded_is ∙ number-told (load_in (length c) p) ∙ ap (λ (t : List ℕ). load_number (load_in (length c) t)) e
+          number_is = number-told _ (load_in (length c) p) g.loaded_is ∙ ap (λ (t : List ℕ). load_number (load_in (length c) t)) e
               ∙ part-number (length c) s ∙ ap filling_number (sym f);
           cells_are = g.cells_are ∙ ap (λ (t : List ℕ). t ++ drop (length t) b) e ∙ ap (λ (t : Filling). filled_in t b) (sym f);
           table_is = g.table_is ∙ ap (λ (t : List ℕ). table_after (load_in (length c) t) c) e
@@ -143,7 +147,13 @@ module _ (s c b : List ℕ) where
 
   module _ {l : answer.Loaded} {d : List ℕ} (k : Loads s c l d) where
     number-of : loaded_number l ≡ number
-    number-of = ap loaded_number k.is ∙ number-told (load_in (length c) s)
+    number-of = number-told l (load_in (length c) s) k.is
+
+    pub load-40 : refused_with 40 l ≡ true → Shortens s c b refused-40 d b
+    load-40 h =
+        let e : number ≡ 40 = sym number-of ∙ eqb-true (loaded_number l) 40 (sym (by-number l (λ z. omega (arith, z))) ∙ h) in
+        subst (λ (t : List ℕ). Shortens s c b refused-40 t b) (sym (k.cells_are ∙ stays-40 (load_in (length c) s) c e))
+        (short-40 (ap (λ (t : Bool). ltb (length b) (length s) || t) (eq-eqb number 40 e) ∙ or-true (ltb (length b) (length s))))
 
     module _ (q : l ≡ Ok tt) where
       number-80 : number ≡ 80
@@ -157,25 +167,22 @@ module _ (s c b : List ℕ) where
       given_back room w x y = part-given accepted-not_40 room (sym (loads-back (length c) s number-80)) (given k w (x ∙ sym q) y)
 
     module _ {f : Rejected} (q : l ≡ Err f) where
-      number-f : f.number ≡ number
+      number-f : question_number f.question ≡ number
       number-f = sym (ap loaded_number q) ∙ number-of
-
-      pub load-40 : f.number ≡ 40 → Shortens s c b refused-40 d b
-      load-40 h =
-          let e : number ≡ 40 = sym number-f ∙ h in
-          subst (λ (t : List ℕ). Shortens s c b refused-40 t b) (sym (k.cells_are ∙ stays-40 (load_in (length c) s) c e))
-          (short-40 (ap (λ (t : Bool). ltb (length b) (length s) || t) (eq-eqb number 40 e) ∙ or-true (ltb (length b) (length s))))
 
       not_80 : number ≢ 80
       not_80 z =
           let a = (load-accepts (length c) s).0 z in
-          true≢false (ap is_ok (sym (ap told a.1) ∙ sym k.is ∙ q))
+          true≢false (ap is_ok (sym (ap told a.1) ∙ sym k.is ∙ ap numbered q))
 
-      module _ (not_40 : f.number ≡ 40 → ⊥) (room : length s ≤ length b) (same : length d ≡ length c) where
+      module _ (no-size : refused_with 40 l ≡ false) (room : length s ≤ length b) (same : length d ≡ length c) where
+        not_40 : question_number f.question ≢ 40
+        not_40 z = true≢false (sym (eq-eqb (question_number f.question) 40 z) ∙ sym (ap (refused_with 40) q) ∙ no-size)
+
         refused-not_40 : number ≢ 40
         refused-not_40 z = not_40 (number-f ∙ z)
 
-        pub refused-text : RefusedText s f.number (length d) (length b)
+        pub refused-text : RefusedText s (question_number f.question) (length d) (length b)
         refused-text = record {
           number_is = number-f ∙ ap (λ (n : ℕ). load_number (load_in n s)) (sym same);
           not_40 = not_40;
@@ -224,10 +231,14 @@ module _ {s : List ℕ} (c : List ℕ) {number out : ℕ} (h : RefusedText s num
   pub fits-row : 0 + length s ≤ length zeros
   fits-row = subst (λ (n : ℕ). 0 + length s ≤ n) (sym (length-replicate {A = ℕ} limit.text 0)) (omega (arith, fits-text))
 
-  module _ {d : List ℕ} (same : length d ≡ length zeros) where
-    pub tryable : Tryable d (length s) number (length (take limit.table c))
-    tryable = record { within = omega (arith, same, fits-row); refused = h.not_80; long = first-cells }
+  pub tryable : Tryable number (length (take limit.table c))
+  tryable = record { refused = h.not_80; long = first-cells }
 
+  -- the text's bytes of the row
+  pub text-in : (d : List ℕ) → length d ≡ length zeros → length s ≤ length d
+  text-in d same = omega (arith, same, fits-row)
+
+  module _ {d : List ℕ} (same : length d ≡ length zeros) where
     pub within-row : d ≡ pasted zeros 0 s → {e : List ℕ} {r : ℕ} → Finished (take (length s) d) number e r → length e ≡ length d → r ≤ length e
     within-row w f k = omega (arith, size_small s w f, k, same, fits-row)
 

@@ -5,8 +5,8 @@ use mathlib.Core.List.{List, [], ◌∷◌, ◌++◌, reverse, reverse-append, r
 use Prim.Native.Nat.{ℕ, zero, suc, ◌≤◌, ◌<◌}
 use native.Mathlib.Omega.{arith}
 use lib.Dec.{eqb}
-use lib.ListN.{length, take, drop, length-append, length-drop, take-append-drop}
-use lib.Seq.{length-take-le, take-take, take_at, drop_at, drop-append-le, drop-length}
+use lib.ListN.{length, take, drop, length-append, length-take, length-drop, take-append-drop}
+use lib.Seq.{length-take-le, take_all, take-take, take_at, drop_at, take-append-le, drop-append-le, drop-length}
 use borrow.Author.Tests.{eq-eqb, ne_eqb}
 use Rattle.lists.specs.Lists.{joined}
 use Rattle.language.specs.Limits as limit
@@ -30,14 +30,30 @@ pub record Trying (d : List ℕ) (size left number : ℕ) (r : List (List ℕ)) 
   pub kept : drop left (take size d) ≡ joined after
   pub leads : round limit.table number after (reverse (lines (take left d))) ≡ r
 
-round-begin : {d : List ℕ} {n number table : ℕ} → Tryable d n number table → Trying d n n number (round_of limit.table number (lines (take n d)))
-round-begin {d} {n} h = record {
+all_of : (d : List ℕ) → take (length d) d ≡ d
+all_of d = take_all (length d) d (omega arith)
+
+round-begin : (d : List ℕ) (number : ℕ) → Trying d (length d) (length d) number (round_of limit.table number (lines d))
+round-begin d number = record {
   upto = omega arith;
-  within = h.within;
+  within = omega arith;
   after = [];
-  kept = ap (λ (m : ℕ). drop m (take n d)) (sym (length-take-le n d h.within)) ∙ drop-length (take n d);
-  leads = refl;
+  kept = ap (drop (length d)) (all_of d) ∙ drop-length d;
+  leads = ap (λ (x : List ℕ). round limit.table number [] (reverse (lines x))) (all_of d);
 }
+
+-- what stands at the front of a row stands there with other bytes behind it
+front-kept : {x : List ℕ} (e rest : List ℕ) {r : ℕ} → take r e ≡ x → r ≡ length x → take r (e ++ rest) ≡ x
+front-kept {x} e rest {r} i z = take-append-le r e rest (omega (arith, length-take r e, ap length i, z)) ∙ i
+
+tried-kept : {p e : List ℕ} {from to number r : ℕ} (rest : List ℕ) → Tried p from to number e r → Tried p from to number (e ++ rest) r
+tried-kept {e = e} rest k = record { is = front-kept e rest k.is k.size; size = k.size }
+
+rounded-kept : {p e : List ℕ} {number r : ℕ} (rest : List ℕ) → Rounded p number e r → Rounded p number (e ++ rest) r
+rounded-kept {e = e} rest k = record { is = front-kept e rest k.is k.size; size = k.size }
+
+pub finished-kept : {p e : List ℕ} {number r : ℕ} (rest : List ℕ) → Finished p number e r → Finished p number (e ++ rest) r
+finished-kept {e = e} rest k = record { is = front-kept e rest k.is k.size; size = k.size }
 
 -- the texts before and after a line was tried
 module _ {d : List ℕ} {size left number : ℕ} {r : List (List ℕ)} (t : Trying d size left number r) {from : ℕ} (l : LineStart d left from) where
@@ -131,8 +147,8 @@ module _ {d : List ℕ} {size left number : ℕ} {r : List (List ℕ)} (t : Tryi
       leads = ap (λ (x : List ℕ). round limit.table number (cond stays t.after (line ∷ t.after)) (reverse (lines x))) untouched ∙ leads-on;
     }
 
-  cuttable : {table : ℕ} → table ≡ limit.table → (number ≡ 80 → ⊥) → Cuttable d size from left number table
-  cuttable e z = record { tryable = record { within = t.within; refused = z; long = e }; upto = t.upto; some = omega (arith, l.below) }
+  cuttable : {table : ℕ} → Tryable number table → Cuttable p from left number table
+  cuttable e = record { tryable = e; upto = omega (arith, t.upto, long); some = omega (arith, l.below) }
 
 pub ending : {d : List ℕ} {size left number : ℕ} {r : List (List ℕ)} → Trying d size left number r → 0 < left → Ending d left
 ending t h = record { some = h; within = omega (arith, t.upto, t.within) }
@@ -148,22 +164,26 @@ round-end {p} {d} {size} {left} {number} t z =
     record { is = e; size = sym (length-take-le size d t.within) ∙ ap length e }
 
 -- the loop of a round: what it has of the row d₀; row and table keep their lengths
-pub record InRound (d₀ : List ℕ) (n number table : ℕ) (d : List ℕ) (table' size left : ℕ) : Type 0 where
-  pub trying : Trying d size left number (round_of limit.table number (lines (take n d₀)))
+pub record InRound (d₀ : List ℕ) (number table : ℕ) (d : List ℕ) (table' size left : ℕ) : Type 0 where
+  pub trying : Trying d size left number (round_of limit.table number (lines d₀))
   pub same : length d ≡ length d₀
   pub table_is : table' ≡ table
 
-module _ {d₀ : List ℕ} {n number table : ℕ} (pre : Tryable d₀ n number table) where
-  pub in-round : InRound d₀ n number table d₀ table n n
-  in-round = record { trying = round-begin pre; same = refl; table_is = refl }
+module _ {d₀ : List ℕ} {number table : ℕ} (pre : Tryable number table) where
+  pub in-round : InRound d₀ number table d₀ table (length d₀) (length d₀)
+  in-round = record { trying = round-begin d₀ number; same = refl; table_is = refl }
 
-  module _ {d : List ℕ} {table' size left : ℕ} (i : InRound d₀ n number table d table' size left) {from : ℕ} (l : LineStart d left from) where
-    pub may-cut : Cuttable d size from left number table'
-    may-cut = cuttable i.trying l (i.table_is ∙ pre.long) pre.refused
+  module _ {d : List ℕ} {table' size left : ℕ} (i : InRound d₀ number table d table' size left) where
+    pub inside : size ≤ length d
+    inside = i.trying.within
 
-    pub on-round : {d' : List ℕ} {table'' size' : ℕ} → Tried (take size d) from left number d' size' → length d' ≡ length d → table'' ≡ table'
-        → InRound d₀ n number table d' table'' size' from
-    on-round k e g = record { trying = tried-on i.trying l k e; same = e ∙ i.same; table_is = g ∙ i.table_is }
+    module _ {from : ℕ} (l : LineStart d left from) where
+      pub may-cut : Cuttable (take size d) from left number table'
+      may-cut = cuttable i.trying l (record { refused = pre.refused; long = i.table_is ∙ pre.long })
+
+      pub on-round : {e : List ℕ} (rest : List ℕ) {table'' size' : ℕ} → Tried (take size d) from left number e size' → length (e ++ rest) ≡ length d → table'' ≡ table'
+          → InRound d₀ number table (e ++ rest) table'' size' from
+      on-round rest k e g = record { trying = tried-on i.trying l (tried-kept rest k) e; same = e ∙ i.same; table_is = g ∙ i.table_is }
 
 -- ---- the rounds
 
@@ -174,8 +194,13 @@ pub record Going (d : List ℕ) (size number : ℕ) (r : List (List ℕ)) : Type
   pub enough : length (lines (take size d)) ≤ fuel
   pub leads : rounds limit.table fuel number (lines (take size d)) ≡ r
 
-rounds-begin : (d : List ℕ) (n number : ℕ) → n ≤ length d → Going d n number (rounds limit.table (length (lines (take n d))) number (lines (take n d)))
-rounds-begin d n number h = record { within = h; fuel = length (lines (take n d)); enough = omega arith; leads = refl }
+rounds-begin : (d : List ℕ) (number : ℕ) → Going d (length d) number (rounds limit.table (length (lines d)) number (lines d))
+rounds-begin d number = record {
+  within = omega arith;
+  fuel = length (lines d);
+  enough = omega (arith, ap (λ (x : List ℕ). length (lines x)) (all_of d));
+  leads = ap (λ (x : List ℕ). rounds limit.table (length (lines d)) number (lines x)) (all_of d);
+}
 
 module _ {d : List ℕ} {size number : ℕ} {r : List (List ℕ)} (g : Going d size number r) {d' : List ℕ} {left : ℕ} (k : Rounded (take size d) number d' left)
     (same : length d' ≡ length d) where
@@ -216,7 +241,7 @@ module _ {d : List ℕ} {size number : ℕ} {r : List (List ℕ)} (g : Going d s
 
   -- one was
   module _ (e : left ≡ size → ⊥) where
-    pub falls : left < size
+    falls : left < size
     falls = omega (arith, no_longer, e)
 
     not_same : length made ≡ length was → ⊥
@@ -244,22 +269,28 @@ module _ {d : List ℕ} {size number : ℕ} {r : List (List ℕ)} (g : Going d s
         }
 
 -- the loop of the rounds
-pub record InRounds (d₀ : List ℕ) (n number table : ℕ) (d : List ℕ) (table' size : ℕ) : Type 0 where
-  pub going : Going d size number (rounds limit.table (length (lines (take n d₀))) number (lines (take n d₀)))
+pub record InRounds (d₀ : List ℕ) (number table : ℕ) (d : List ℕ) (table' size : ℕ) : Type 0 where
+  pub going : Going d size number (rounds limit.table (length (lines d₀)) number (lines d₀))
   pub same : length d ≡ length d₀
   pub table_is : table' ≡ table
 
-module _ {d₀ : List ℕ} {n number table : ℕ} (pre : Tryable d₀ n number table) where
-  pub in-rounds : InRounds d₀ n number table d₀ table n
-  in-rounds = record { going = rounds-begin d₀ n number pre.within; same = refl; table_is = refl }
+module _ {d₀ : List ℕ} {number table : ℕ} (pre : Tryable number table) where
+  pub in-rounds : InRounds d₀ number table d₀ table (length d₀)
+  in-rounds = record { going = rounds-begin d₀ number; same = refl; table_is = refl }
 
-  module _ {d : List ℕ} {table' size : ℕ} (i : InRounds d₀ n number table d table' size) where
-    pub may-try : Tryable d size number table'
-    may-try = record { within = i.going.within; refused = pre.refused; long = i.table_is ∙ pre.long }
+  module _ {d : List ℕ} {table' size : ℕ} (i : InRounds d₀ number table d table' size) where
+    pub within-rounds : size ≤ length d
+    within-rounds = i.going.within
 
-    module _ {d' : List ℕ} {left : ℕ} (k : Rounded (take size d) number d' left) (e : length d' ≡ length d) where
-      pub on-rounds : (left ≡ size → ⊥) → {table'' : ℕ} → table'' ≡ table' → InRounds d₀ n number table d' table'' left
-      on-rounds z g = record { going = rounds-on i.going k e z; same = e ∙ i.same; table_is = g ∙ i.table_is }
+    pub may-try : Tryable number table'
+    may-try = record { refused = pre.refused; long = i.table_is ∙ pre.long }
 
-      pub finished : left ≡ size → Finished (take n d₀) number d' size
-      finished z = let q = rounds-end i.going k e z in record { is = q.0; size = q.1 }
+    module _ {d' : List ℕ} (rest : List ℕ) {left : ℕ} (k : Rounded (take size d) number d' left) (e : length (d' ++ rest) ≡ length d) where
+      pub on-rounds : (left ≡ size → ⊥) → {table'' : ℕ} → table'' ≡ table' → InRounds d₀ number table (d' ++ rest) table'' left
+      on-rounds z g = record { going = rounds-on i.going (rounded-kept rest k) e z; same = e ∙ i.same; table_is = g ∙ i.table_is }
+
+      pub smaller : (left ≡ size → ⊥) → left < size
+      smaller z = falls i.going (rounded-kept rest k) e z
+
+      pub finished : left ≡ size → Finished d₀ number (d' ++ rest) size
+      finished z = let q = rounds-end i.going (rounded-kept rest k) e z in record { is = q.0; size = q.1 }

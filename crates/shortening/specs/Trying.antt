@@ -2,10 +2,12 @@
 use Rattle.std.specs.Prelude.{◌≡◌, Result, Ok, Err, Bool, false, cond, List, [], ◌∷◌, ◌++◌, ℕ, ◌≤◌, ◌<◌, eqb, length, take, drop}
 use Rattle.calls.specs.Calls.{load_number, table_after}
 use Rattle.calls.specs.Filling.{filling_number, filled_in, Filled, filled_of}
-use Rattle.calls.specs.declared.Refused.{Refused}
+use Rattle.calls.specs.Questions as asked
+use Rattle.calls.specs.declared.Question.{Question}
 use Rattle.language.specs.Limits as limit
 use Rattle.lists.specs.Lists.{joined}
-use Rattle.macro_loading.specs.Below.Told.{Loaded, told, loaded_number}
+use Rattle.macro_loading.specs.Below.Told.{Loaded, numbered, told, loaded_number}
+use Rattle.statements.specs.Questions.{question_number}
 use Rattle.macros.specs.Load.{load_in, load_of}
 use Rattle.shorten_calls.specs.Shortening.{round_of, rounds, shorten_of, table_shortened}
 use Rattle.text_lines.specs.Lines.{lines}
@@ -42,17 +44,17 @@ cut_number p from to = load_number (load_of (cut p from to))
 -- load refuses with this number
 abbrev pub refused_with : ℕ → Loaded → Bool
 refused_with number (Ok u) = false
-refused_with number (Err r) = eqb r.number number
+refused_with number (Err r) = eqb (question_number r.question) number
 
--- the text are the first n bytes of a row, refused with a number; the table has the right length
-pub record Tryable (d : List ℕ) (n number table : ℕ) : Type 0 where
-  pub within : n ≤ length d
+-- a number of a refusal; the table has the right length
+pub record Tryable (number table : ℕ) : Type 0 where
   pub refused : number ≡ 80 → ⊥
   pub long : table ≡ limit.table
 
-pub record Cuttable (d : List ℕ) (n from to number table : ℕ) : Type 0 where
-  pub tryable : Tryable d n number table
-  pub upto : to ≤ n
+-- a stretch of the text p
+pub record Cuttable (p : List ℕ) (from to number table : ℕ) : Type 0 where
+  pub tryable : Tryable number table
+  pub upto : to ≤ length p
   pub some : from ≤ to
 
 -- "each dropped if the number stays"; r bytes are left, in e
@@ -77,7 +79,7 @@ pub record Givable (p : List ℕ) (out : ℕ) : Type 0 where
 
 -- p is loaded, on the table c, and written to the buffer b
 pub record Given (p c b : List ℕ) (r : Shortened) (c' b' : List ℕ) : Type 0 where
-  pub loaded_is : r.loaded ≡ told (load_in (length c) p)
+  pub loaded_is : numbered r.loaded ≡ told (load_in (length c) p)
   pub count_is : r.count ≡ length p
   pub table_is : c' ≡ table_after (load_in (length c) p) c
   pub cells_are : b' ≡ p ++ drop (length p) b
@@ -90,7 +92,7 @@ pub record RefusedText (s : List ℕ) (number table out : ℕ) : Type 0 where
   pub room : length s ≤ out
 
 abbrev pub Answer : Type 0
-Answer = Result Shortened Refused
+Answer = Result Shortened Question
 
 -- the bytes written
 abbrev pub shortened_filled : Answer → Filled
@@ -100,11 +102,11 @@ shortened_filled (Err e) = Err e
 -- load's number, or that of the refused call
 abbrev pub shortened_number : Answer → ℕ
 shortened_number (Ok t) = loaded_number t.loaded
-shortened_number (Err e) = e.number
+shortened_number (Err e) = asked.question_number e
 
 -- the whole call: the text s, the table c and the buffer b, and what becomes of them
 pub record Shortens (s c b : List ℕ) (r : Answer) (c' b' : List ℕ) : Type 0 where
-  pub result_is : shortened_filled r ≡ filled_of (shorten_of (length c) (length b) s)
+  pub result_is : asked.numbered (shortened_filled r) ≡ filled_of (shorten_of (length c) (length b) s)
   pub number_is : shortened_number r ≡ filling_number (shorten_of (length c) (length b) s)
   pub cells_are : b' ≡ filled_in (shorten_of (length c) (length b) s) b
   pub table_is : c' ≡ table_shortened c (length b) s

@@ -1,29 +1,28 @@
 // A short part of a refused text that load refuses with the same number.
 #![tactic(auto)]
 
-ghost use Rattle.std.specs.Prelude.{◌≡◌, length, take};
+ghost use Rattle.std.specs.Prelude.{◌≡◌, length};
 ghost use Rattle.shorten_calls.specs.Shortening.{part};
+ghost use Rattle.statements.specs.Questions.{question_number};
 ghost use Rattle.shortening.specs.Trying.{Ending, LineStart, Exchangeable, exchanged, refused_with, Cuttable, Tried, Tryable, Rounded, Finished, Givable, Given, RefusedText, Shortens};
 
-use calls::Refused;
+use calls::Question as Asked;
 use language::Machine;
 use macro_loading::from_loading::Loaded;
-
-// "one shorter than the text also brings 40"
-const REFUSED: Refused = Refused { number: 40 };
+use statements::Question;
 
 // What load answers of the part, and how many bytes it has.
-#[derive(Clone, Copy)]
+#[derive(Clone, Copy, Debug, PartialEq, Eq)]
 pub struct Shortened {
     pub loaded: Loaded,
     pub count: u32,
 }
 
-// Whether load refuses with this number.
-fn is_refused_with(loaded: Loaded, number: u8) -> bool
-    ensures { result ≡ refused_with number loaded }
+// Whether load refuses by this question.
+fn is_refused_by(loaded: Loaded, question: Question) -> bool
+    ensures { result ≡ refused_with (question_number question) loaded }
 {
-    matches!(loaded, Err(r) if r.number == number)
+    matches!(loaded, Err(r) if r.question == question)
 }
 
 // The place where the line begins that ends at `end`.
@@ -47,24 +46,22 @@ fn exchange(row: &mut [u8], from: usize, middle: usize, to: usize)
     row[from..to].rotate_left(middle - from);
 }
 
-// Drops the bytes from `from` to `to` of the first `n` if the number stays; returns how many bytes are left. For the trial they are put behind the
-// others.
-// The part shrinks in place, and its length is the answer: as a slice of that length it would be lent anew for each step.
+// Drops the bytes from `from` to `to` if the question stays; returns how many bytes are left. For the trial they are put behind the others.
 fn try_without(
     part: &mut [u8],
-    n: usize,
     from: usize,
     to: usize,
-    number: u8,
+    question: Question,
     table: &mut [u32],
 ) -> usize
-    requires { Cuttable part.old n from to number (length table.old) }
-    ensures { Tried (take n part.old) from to number part.new result }
+    requires { Cuttable part.old from to (question_number question) (length table.old) }
+    ensures { Tried part.old from to (question_number question) part.new result }
 {
+    let n = part.len();
     let size = from + (n - to);
     exchange(part, from, to, n);
     let loaded = macro_loading::load(&part[..size], table);
-    if is_refused_with(loaded, number) {
+    if is_refused_by(loaded, question) {
         return size;
     }
     exchange(part, from, size, n);
@@ -73,28 +70,28 @@ fn try_without(
 
 // One round: "from the last to the first, each dropped if the number stays".
 // No range: each turn finds where its line begins, and in `rounds` each round tells whether another follows.
-fn round(part: &mut [u8], n: usize, number: u8, table: &mut [u32]) -> usize
-    requires { Tryable part.old n number (length table.old) }
-    ensures { Rounded (take n part.old) number part.new result }
+fn round(part: &mut [u8], question: Question, table: &mut [u32]) -> usize
+    requires { Tryable (question_number question) (length table.old) }
+    ensures { Rounded part.old (question_number question) part.new result }
 {
-    let mut size = n;
-    let mut left = n;
+    let mut size = part.len();
+    let mut left = size;
     while 0 < left {
         let from = line_start(part, left);
-        size = try_without(part, size, from, left, number, table);
+        size = try_without(&mut part[..size], from, left, question, table);
         left = from;
     }
     size
 }
 
 // "until a round drops none"
-fn rounds(part: &mut [u8], n: usize, number: u8, table: &mut [u32]) -> usize
-    requires { Tryable part.old n number (length table.old) }
-    ensures { Finished (take n part.old) number part.new result }
+fn rounds(part: &mut [u8], question: Question, table: &mut [u32]) -> usize
+    requires { Tryable (question_number question) (length table.old) }
+    ensures { Finished part.old (question_number question) part.new result }
 {
-    let mut size = n;
+    let mut size = part.len();
     loop {
-        let left = round(part, size, number, table);
+        let left = round(&mut part[..size], question, table);
         if left == size {
             return size;
         }
@@ -117,37 +114,38 @@ fn give(part: &[u8], table: &mut [u32], out: &mut [u8]) -> Shortened
 
 // The part of a refused text. The trials use the lent table.
 // `cells::put` fills the row: `copy_from_slice` on a row of this function leaves goals over all its locals, which did not close.
-fn shorten_refused(text: &[u8], number: u8, table: &mut [u32], out: &mut [u8]) -> Shortened
-    requires { RefusedText text.now number (length table.old) (length out.old) }
+fn shorten_refused(text: &[u8], question: Question, table: &mut [u32], out: &mut [u8]) -> Shortened
+    requires { RefusedText text.now (question_number question) (length table.old) (length out.old) }
     ensures { Given (part (length table.old) text.now) table.old out.old result table.new out.new }
 {
     let mut part = [0u8; Machine::TEXT];
     cells::put(&mut part, 0, text);
-    let size = rounds(&mut part, text.len(), number, &mut table[..Machine::TABLE]);
+    let n = text.len();
+    let size = rounds(&mut part[..n], question, &mut table[..Machine::TABLE]);
     give(&part[..size], table, out)
 }
 
 // "From a refused text, give a part made of some of its lines .. A text that loads is given back, with 80."
-pub fn shorten(text: &[u8], table: &mut [u32], out: &mut [u8]) -> Result<Shortened, Refused>
+pub fn shorten(text: &[u8], table: &mut [u32], out: &mut [u8]) -> Result<Shortened, Asked>
     ensures { Shortens text.now table.old out.old result table.new out.new }
 {
+    // "one shorter than the text also brings 40"
     if out.len() < text.len() {
-        return Err(REFUSED);
+        return Err(Asked::Size);
     }
-    match macro_loading::load(text, table) {
+    let loaded = macro_loading::load(text, table);
+    if is_refused_by(loaded, Question::Size) {
+        return Err(Asked::Size);
+    }
+    match loaded {
         Ok(()) => {
             out[..text.len()].copy_from_slice(text);
             Ok(Shortened {
-                loaded: Ok(()),
+                loaded,
                 count: text.len() as u32,
             })
         }
-        Err(r) => {
-            if r.number == 40 {
-                return Err(REFUSED);
-            }
-            Ok(shorten_refused(text, r.number, table, out))
-        }
+        Err(r) => Ok(shorten_refused(text, r.question, table, out)),
     }
 }
 

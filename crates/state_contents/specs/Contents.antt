@@ -14,20 +14,23 @@ use Rattle.state_frames.specs.MemoryFrames.{untotalled, SavedAs}
 
 -- ---- the contents of frames
 
--- the line of the frame f stands in the text from `at` on
-pub record LineAt (t : List ℕ) (at : ℕ) (f : Frame) : Type 0 where
+-- the line of the frame f stands in front in l
+pub record Begins (l : List ℕ) (f : Frame) : Type 0 where
   pub below : Below 256 (frame_bytes f)
-  pub line : drop at t ≡ frame_line f ++ drop (at + (11 + 2 * length f.contents)) t
+  pub line : l ≡ frame_line f ++ drop (11 + 2 * length f.contents) l
+
+-- that of some frame does
+pub record Lined (l : List ℕ) : Type 0 where
+  pub frame : Frame
+  pub begins : Begins l frame
+
+-- r says whether it is of the kind k and the index i
+pub record Tells (l : List ℕ) (k i : ℕ) (r : Bool) : Type 0 where
+  pub frame : (f : Frame) → Begins l f → r ≡ is_at k i f
 
 -- what a frame adds to the contents of a kind and an index
 abbrev pub added : ℕ → ℕ → Frame → List ℕ
 added k i f = cond (is_at k i f) f.contents []
-
--- of `long` bytes there is a line from `at` on with contents of `size` bytes; n bytes are no more than those before it, and stand in a row of `room`
-pub record Gatherable (long at size n room : ℕ) : Type 0 where
-  pub line : at + (11 + 2 * size) ≤ long
-  pub fewer : n ≤ at
-  pub fits : n ≤ room
 
 -- the bytes c behind n bytes of the row o, r bytes in all
 pub record Behind (n : ℕ) (c o : List ℕ) (r : ℕ) (o' : List ℕ) : Type 0 where
@@ -35,9 +38,9 @@ pub record Behind (n : ℕ) (c o : List ℕ) (r : ℕ) (o' : List ℕ) : Type 0 
   pub room : r ≤ length o
   pub row : o' ≡ pasted o n c
 
--- what the frame there adds to n bytes stands behind them in the row o'; where the row o has no room for it, r is none
-pub record Added (t : List ℕ) (at size k i n : ℕ) (o : List ℕ) (r : Option ℕ) (o' : List ℕ) : Type 0 where
-  pub frame : (f : Frame) → LineAt t at f → size ≡ length f.contents → MatchOption r (length o < n + length (added k i f)) (λ m. Behind n (added k i f) o m o')
+-- what the frame of l adds to n bytes stands behind them in the row o'; where the row o has no room for it, r is none
+pub record Added (l : List ℕ) (k i n : ℕ) (o : List ℕ) (r : Option ℕ) (o' : List ℕ) : Type 0 where
+  pub frame : (f : Frame) → Begins l f → MatchOption r (length o < n + length (added k i f)) (λ m. Behind n (added k i f) o m o')
 
 -- the bytes c stand in front in the row o, n of them
 pub record Stored (c : List ℕ) (n : ℕ) (o : List ℕ) : Type 0 where

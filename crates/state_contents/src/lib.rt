@@ -5,42 +5,38 @@ ghost use Rattle.std.specs.Prelude.{◌≡◌, [], ◌≤◌, T, length, get_or,
 ghost use Rattle.language.specs.Limits as limit;
 ghost use Rattle.state_frames.specs.Frames.{head, file, sound_text, frames_in};
 ghost use Rattle.state_frames.specs.Saved.{contents_at};
-ghost use Rattle.state_contents.specs.Contents.{Gatherable, Added, Gathered, Standing, half_of, strings_of, Fitting, Findable, Puttable, PutOne, Layable, StringsLaid, HeadLaid, Laid};
+ghost use Rattle.state_lines.specs.Kinds.{kind_number};
+ghost use Rattle.state_contents.specs.Contents.{Lined, Tells, Added, Gathered, Standing, half_of, strings_of, Fitting, Findable, Puttable, PutOne, Layable, StringsLaid, HeadLaid, Laid};
 
 use language::Machine;
 use layout::StatePlaces;
 use state_lines::{Kind, Slot};
 use std::ops::Range;
 
-// Copies the contents of the frame that begins at `at`, `size` bytes, behind `n` bytes of the row if it is the one asked for, and tells how many bytes
-// there are then: none where the row has no room.
-fn gather(
-    text: &[u8],
-    at: usize,
-    size: usize,
-    slot: Slot,
-    row: &mut [u8],
-    n: usize,
-) -> Option<usize>
-    requires { Gatherable (length text.now) at size n (length row.old) }
-    ensures { Added text.now at size slot.kind slot.index n row.old result row.new }
+// Whether a line is that of the frame asked for.
+fn is_of(line: &[u8], slot: Slot) -> bool
+    requires { Lined line.now }
+    ensures { Tells line.now (kind_number slot.kind) slot.index result }
 {
-    let Some(kind) = hexadecimal::byte_at(text, at) else {
-        return Some(n);
-    };
-    if usize::from(kind) != slot.kind {
+    let kind = hexadecimal::byte_at(line, 0).unwrap();
+    let index = hexadecimal::byte_at(line, 2).unwrap();
+    (usize::from(slot.kind) == usize::from(kind)) & (slot.index == usize::from(index))
+}
+
+// Copies the contents of a line behind `n` bytes of the row if it is the one asked for, and tells how many bytes there are then: none where the row has
+// no room.
+fn gather(line: &[u8], slot: Slot, row: &mut [u8], n: usize) -> Option<usize>
+    requires { Lined line.now × (n ≤ length row.old) }
+    ensures { Added line.now (kind_number slot.kind) slot.index n row.old result row.new }
+{
+    if !is_of(line, slot) {
         return Some(n);
     }
-    let Some(index) = hexadecimal::byte_at(text, at + 2) else {
-        return Some(n);
-    };
-    if usize::from(index) != slot.index {
-        return Some(n);
-    }
+    let size = state_lines::contents_length(line);
     if row.len() < n + size {
         return None;
     }
-    hexadecimal::get_bytes(row, n, text, at + state_lines::FRONT, size);
+    hexadecimal::get_bytes(row, n, line, state_lines::FRONT, size)?;
     Some(n + size)
 }
 
@@ -48,16 +44,15 @@ fn gather(
 // long it is, so no method of std walks so.
 fn contents(text: &[u8], slot: Slot, row: &mut [u8]) -> Option<usize>
     requires { T (sound_text text.now) }
-    ensures { Gathered (contents_at slot.kind slot.index (frames_in text.now)) result row.new }
+    ensures { Gathered (contents_at (kind_number slot.kind) slot.index (frames_in text.now)) result row.new }
 {
     let mut n = 0;
-    let mut at = 0;
-    while at < text.len() {
-        let high = hexadecimal::byte_at(text, at + 4).unwrap();
-        let low = hexadecimal::byte_at(text, at + 6).unwrap();
-        let size = 256 * usize::from(high) + usize::from(low);
-        n = gather(text, at, size, slot, row, n)?;
-        at += state_lines::line_length(size);
+    let mut rest = text;
+    while !rest.is_empty() {
+        let size = state_lines::contents_length(rest);
+        let (line, others) = rest.split_at(state_lines::line_length(size));
+        n = gather(line, slot, row, n)?;
+        rest = others;
     }
     Some(n)
 }
@@ -65,7 +60,7 @@ fn contents(text: &[u8], slot: Slot, row: &mut [u8]) -> Option<usize>
 // A string that is the whole contents.
 fn whole(text: &[u8], slot: Slot, row: &mut [u8]) -> Range<usize>
     requires { T (sound_text text.now) }
-    ensures { Standing (length (contents_at slot.kind slot.index (frames_in text.now)) ≤ length row.new) (contents_at slot.kind slot.index (frames_in text.now)) row.new result.start result.end }
+    ensures { Standing (length (contents_at (kind_number slot.kind) slot.index (frames_in text.now)) ≤ length row.new) (contents_at (kind_number slot.kind) slot.index (frames_in text.now)) row.new result.start result.end }
 {
     0..contents(text, slot, row).unwrap_or(0)
 }
@@ -77,7 +72,7 @@ fn half(text: &[u8], index: usize, after: bool, row: &mut [u8]) -> Range<usize>
     ensures { Standing (length (contents_at file index (frames_in text.now)) ≤ length row.new) (half_of after (contents_at file index (frames_in text.now))) row.new result.start result.end }
 {
     let slot = Slot {
-        kind: Kind::File as usize,
+        kind: Kind::File,
         index,
     };
     let Some(n) = contents(text, slot, row) else {
@@ -106,7 +101,7 @@ fn string(text: &[u8], j: usize, row: &mut [u8]) -> Range<usize>
 {
     if j < StatePlaces::FIRST_FILE {
         let slot = Slot {
-            kind: Kind::Expression as usize,
+            kind: Kind::Expression,
             index: j + 1,
         };
         return whole(text, slot, row);
@@ -119,7 +114,7 @@ fn string(text: &[u8], j: usize, row: &mut [u8]) -> Range<usize>
         return whole(text, Slot::STACK, row);
     }
     let slot = Slot {
-        kind: Kind::Output as usize,
+        kind: Kind::Output,
         index: j - StatePlaces::STACK_STRING,
     };
     whole(text, slot, row)
@@ -147,7 +142,7 @@ fn lay_strings(text: &[u8], m: &mut [u8], row: &mut [u8])
     let mut at = StatePlaces::FIRST_BYTE;
     for j in 0..StatePlaces::STRINGS_COUNT {
         let s = string(text, j, row);
-        at = put_string(m, j, at, &row[s.start..s.end]);
+        at = put_string(m, j, at, &row[s]);
     }
 }
 

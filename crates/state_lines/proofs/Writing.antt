@@ -11,7 +11,17 @@ use Rattle.hexadecimal.specs.Below.Frames.{framed, sum, check, front_bytes, fram
 use Rattle.hexadecimal.specs.Below.Saved.{file_contents}
 use Rattle.layout.specs.Cells.{two}
 use Rattle.lists.specs.ListLaws.{total-append}
+use Rattle.state_lines.specs.Kinds.{kind_number}
+use Rattle.state_lines.specs.declared.Kind.{Kind}
+use Rattle.state_lines.specs.declared.Kind.TheVariants as code
 use Rattle.hexadecimal.proofs.Laws.{length-hexadecimal, hexadecimal-append, hexadecimal-one, set-one}
+
+pub kind_below : (k : Kind) → kind_number k < 256
+kind_below code.Head = omega arith
+kind_below code.Expression = omega arith
+kind_below code.File = omega arith
+kind_below code.Output = omega arith
+kind_below code.Stack = omega arith
 
 -- a run behind the first k bytes
 next : (d : List ℕ) (at k : ℕ) (s t d₁ d₂ : List ℕ) → d₁ ≡ pasted d at s → length s ≡ k → at + (k + length t) ≤ length d → d₂ ≡ pasted d₁ (at + k) t → d₂ ≡ pasted d at (s ++ t)
@@ -52,21 +62,17 @@ module _ (d : List ℕ) (at k i : ℕ) (c : List ℕ) (room : at + (11 + 2 * len
       ap (λ (t : List ℕ). t ++ (10 ∷ [])) (sym a)
 
   pub frame-put : (s : ℕ) (d₁ d₂ d₃ : List ℕ) → s ≡ ((k + (i + (n / 256 + n % 256))) % 256 + sum c) % 256 → d₁ ≡ pasted d at (hexadecimal front)
-      → d₂ ≡ pasted d₁ (at + 8) (hexadecimal c) → d₃ ≡ pasted d₂ (at + (8 + 2 * n)) (two_digits ((256 - s) % 256))
-      → set d₃ (at + (10 + 2 * n)) 10 ≡ pasted d at (frame_line (framed k i c))
+      → d₂ ≡ pasted d₁ (at + 8) (hexadecimal c) → d₃ ≡ pasted d₂ (at + (8 + 2 * n)) (two_digits ((256 - s) % 256) ++ (10 ∷ []))
+      → d₃ ≡ pasted d at (frame_line (framed k i c))
   frame-put s d₁ d₂ d₃ e e₁ e₂ e₃ =
       let l₁ : length (hexadecimal front) ≡ 8 = length-hexadecimal front in
       let lc : length (hexadecimal c) ≡ 2 * n = length-hexadecimal c in
       let l₂ : length (hexadecimal front ++ hexadecimal c) ≡ 8 + 2 * n = simp length-append (omega arith) in
-      let l₃ : length (hexadecimal front ++ hexadecimal c ++ two_digits x) ≡ 10 + 2 * n = simp length-append (omega arith) in
       let xe : (256 - s) % 256 ≡ x = check-by k i (n / 256) (n % 256) (sum c) s e in
       let f₂ = next d at 8 (hexadecimal front) (hexadecimal c) d₁ d₂ e₁ l₁ (omega arith) e₂ in
-      let f₃ = next d at (8 + 2 * n) (hexadecimal front ++ hexadecimal c) (two_digits x) d₂ d₃ f₂ l₂ (omega arith)
-      (e₃ ∙ ap (λ (y : ℕ). pasted d₂ (at + (8 + 2 * n)) (two_digits y)) xe) in
-      let long : length d₃ ≡ length d = ap length f₃ ∙ length-pasted d at (hexadecimal front ++ hexadecimal c ++ two_digits x) (omega arith) in
-      next d at (10 + 2 * n) (hexadecimal front ++ hexadecimal c ++ two_digits x) (10 ∷ []) d₃ (set d₃ (at + (10 + 2 * n)) 10) f₃ l₃ (omega arith)
-      (set-one d₃ (at + (10 + 2 * n)) 10 (omega arith))
-      ∙ ap (pasted d at) line_is
+      next d at (8 + 2 * n) (hexadecimal front ++ hexadecimal c) (two_digits x ++ (10 ∷ [])) d₂ d₃ f₂ l₂ (omega arith)
+      (e₃ ∙ ap (λ (y : ℕ). pasted d₂ (at + (8 + 2 * n)) (two_digits y ++ (10 ∷ []))) xe)
+      ∙ ap (pasted d at) (sym (append_assoc (hexadecimal front ++ hexadecimal c) (two_digits x) (10 ∷ [])) ∙ line_is)
 
 -- ---- a file's
 

@@ -1,3 +1,4 @@
 pub mod Kinds
+pub mod Lengths
 pub mod Sums
 pub mod Writing

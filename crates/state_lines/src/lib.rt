@@ -2,9 +2,11 @@
 #![tactic(auto)]
 
 ghost use Rattle.std.specs.Prelude.{◌≡◌, [], ◌∷◌, ◌++◌, ◌+◌, ◌*◌, ◌-◌, ◌/◌, ◌%◌, ◌≤◌, ◌<◌, length};
-ghost use Rattle.cells.specs.Cells.{pasted};
+ghost use Rattle.cells.specs.Cells.{pasted, Number};
 ghost use Rattle.hexadecimal.specs.Below.Hexadecimal.{two_digits, hexadecimal};
 ghost use Rattle.hexadecimal.specs.Below.Frames.{framed, frame_line, sound_line, sound_text};
+ghost use Rattle.state_lines.specs.Kinds.{kind_number};
+ghost use Rattle.state_lines.specs.Lengths.{Measured, contents_length};
 ghost use Rattle.state_lines.specs.Sums.{told_sum};
 ghost use Rattle.state_lines.specs.Writing.{FrontRoom, FrameRoom, EndRoom, LengthsRoom, FileRoom};
 ghost use Rattle.hexadecimal.specs.Below.Saved.{file_contents};
@@ -30,22 +32,22 @@ impl From<Kind> for usize {
     }
 }
 
-// Which frame of a state: the number of its kind, which may be any byte, and its index.
+// Which frame of a state: its kind, and its index.
 #[derive(Clone, Copy, PartialEq, Eq)]
 pub struct Slot {
-    pub kind: usize,
+    pub kind: Kind,
     pub index: usize,
 }
 
 // Those of which a state has one.
 impl Slot {
     pub const HEAD: Slot = Slot {
-        kind: Kind::Head as usize,
+        kind: Kind::Head,
         index: 0,
     };
 
     pub const STACK: Slot = Slot {
-        kind: Kind::Stack as usize,
+        kind: Kind::Stack,
         index: 0,
     };
 }
@@ -63,27 +65,13 @@ pub fn line_length(n: usize) -> usize
 
 // Writes a frame's first four bytes: its kind, its index, and the length `n` of its contents, high byte first.
 fn put_front(dst: &mut [u8], at: usize, slot: Slot, n: usize)
-    requires { FrontRoom (length dst.old) at slot.kind slot.index n }
-    ensures { dst.new ≡ pasted dst.old at (hexadecimal (slot.kind ∷ slot.index ∷ n / 256 ∷ n % 256 ∷ [])) }
+    requires { FrontRoom (length dst.old) at slot.index n }
+    ensures { dst.new ≡ pasted dst.old at (hexadecimal (kind_number slot.kind ∷ slot.index ∷ n / 256 ∷ n % 256 ∷ [])) }
 {
-    hexadecimal::put_byte(dst, at, slot.kind);
+    hexadecimal::put_byte(dst, at, usize::from(slot.kind));
     hexadecimal::put_byte(dst, at + 2, slot.index);
     hexadecimal::put_byte(dst, at + 4, n / 256);
     hexadecimal::put_byte(dst, at + 6, n % 256);
-}
-
-// Writes a frame as a line of 11 bytes and two for each of its contents.
-pub fn put_frame(dst: &mut [u8], at: usize, slot: Slot, contents: &[u8])
-    requires { FrameRoom (length dst.old) at slot.kind slot.index (length contents.now) }
-    ensures { dst.new ≡ pasted dst.old at (frame_line (framed slot.kind slot.index contents.now)) }
-{
-    let n = contents.len();
-    let front = (slot.kind + (slot.index + (n / 256 + n % 256))) % 256;
-    let sum = hexadecimal::sum_from(front, contents);
-    put_front(dst, at, slot, n);
-    hexadecimal::put_bytes(dst, at + 8, contents);
-    hexadecimal::put_byte(dst, at + (8 + 2 * n), (256 - sum) % 256);
-    dst[at + (10 + 2 * n)] = 10;
 }
 
 // Writes the byte that makes the sum a multiple of 256, and LF.
@@ -95,13 +83,26 @@ fn put_end(dst: &mut [u8], at: usize, sum: usize)
     dst[at + 2] = 10;
 }
 
+// Writes a frame as a line of 11 bytes and two for each of its contents.
+pub fn put_frame(dst: &mut [u8], at: usize, slot: Slot, contents: &[u8])
+    requires { FrameRoom (length dst.old) at slot.index (length contents.now) }
+    ensures { dst.new ≡ pasted dst.old at (frame_line (framed (kind_number slot.kind) slot.index contents.now)) }
+{
+    let n = contents.len();
+    let front = (usize::from(slot.kind) + (slot.index + (n / 256 + n % 256))) % 256;
+    let sum = hexadecimal::sum_from(front, contents);
+    put_front(dst, at, slot, n);
+    hexadecimal::put_bytes(dst, at + 8, contents);
+    put_end(dst, at + (8 + 2 * n), sum);
+}
+
 // Writes the first six bytes of a file's frame: the four, with the length `n`, and the length `k` of the records before the pointer.
 fn put_lengths(dst: &mut [u8], at: usize, index: usize, n: usize, k: usize)
     requires { LengthsRoom (length dst.old) at index n k }
     ensures { dst.new ≡ pasted dst.old at (hexadecimal (3 ∷ index ∷ n / 256 ∷ n % 256 ∷ k % 256 ∷ k / 256 ∷ [])) }
 {
     let slot = Slot {
-        kind: Kind::File as usize,
+        kind: Kind::File,
         index,
     };
     put_front(dst, at, slot, n);
@@ -116,7 +117,8 @@ pub fn put_file(dst: &mut [u8], at: usize, index: usize, before: &[u8], after: &
 {
     let k = before.len();
     let n = 2 + (k + after.len());
-    let front = (Kind::File as usize + (index + (n / 256 + (n % 256 + (k % 256 + k / 256))))) % 256;
+    let front = (usize::from(Kind::File) + (index + (n / 256 + (n % 256 + (k % 256 + k / 256)))))
+        % 256;
     let sum = hexadecimal::sum_from(front, before);
     let all = hexadecimal::sum_from(sum, after);
     put_lengths(dst, at, index, n, k);
@@ -136,6 +138,16 @@ fn sum_digits(line: &[u8], n: usize) -> Option<usize>
         s = (s + usize::from(b)) % 256;
     }
     Some(s)
+}
+
+// How long a frame's contents are, by its line: the third and the fourth byte tell it.
+pub fn contents_length(line: &[u8]) -> usize
+    requires { Measured line.now }
+    ensures { Number (contents_length line.now) 65536 result }
+{
+    let high = hexadecimal::byte_at(line, 4).unwrap();
+    let low = hexadecimal::byte_at(line, 6).unwrap();
+    256 * usize::from(high) + usize::from(low)
 }
 
 // Whether the line, with its LF, is hexadecimal with its length and sum right.
@@ -159,9 +171,7 @@ fn is_sound(line: &[u8]) -> bool
     if sum != 0 {
         return false;
     }
-    let high = hexadecimal::byte_at(line, 4).unwrap();
-    let low = hexadecimal::byte_at(line, 6).unwrap();
-    k == 5 + (256 * usize::from(high) + usize::from(low))
+    k == 5 + contents_length(line)
 }
 
 // Question 68: whether every line is hexadecimal with its length and sum right.

@@ -12,9 +12,11 @@ use lib.Seq.{take_all}
 use borrow.Author.Tests.{le-leb, lt-leb}
 use Rattle.calls.specs.Filling.{Taken, taken_number, taken_with}
 use Rattle.cells.specs.Cells.{pasted}
-use Rattle.check_calls.specs.Asked.{question_number, told_by, refused_by, first_no}
+use Rattle.calls.specs.Questions.{question_number, numbered}
+use Rattle.calls.specs.declared.Question.{Question}
+use Rattle.calls.specs.declared.Question.TheVariants as code
+use Rattle.check_calls.specs.Asked.{told_by, first_no}
 use Rattle.check_calls.specs.AskedLaws.{both_yes, some}
-use Rattle.check_calls.specs.declared.Question.{Question}
 use Rattle.check_memory.proofs.Steps.{passed}
 use Rattle.check_state.specs.Asked.{Asked}
 use Rattle.check_strings.proofs.ComponentWalks.{same_test}
@@ -132,11 +134,11 @@ module _ {c i j t m : List ℕ} (h : Restorable c i j t m) where
 
 -- ---- the reader
 
-restores : {x y : Reading} → x ≡ y → {r : Taken} {m : List ℕ} → r ≡ taken_with y.number → taken_number r ≡ y.number → m ≡ y.cells → Restores x r m
+restores : {x y : Reading} → x ≡ y → {r : Taken} {m : List ℕ} → numbered r ≡ taken_with y.number → taken_number r ≡ y.number → m ≡ y.cells → Restores x r m
 restores e a n b = record { result_is = rw e a; number_is = rw e n; cells_are = rw e b }
 
-abbrev refusal : ℕ → Taken
-refusal n = Err (record { number = n })
+abbrev refusal : ℕ → Result (Unit {0}) ℕ
+refusal n = Err n
 
 module _ (c i j t m : List ℕ) where
   abbrev lent : Inputs
@@ -153,29 +155,29 @@ module _ (c i j t m : List ℕ) where
   unfolding read_of
   is-61 a b = rw (a, b) refl
 
-  module _ {o : Result (Unit {0}) Question} (told : told_by o ≡ first_no c lent) where
+  module _ {X : Type 0} {o : Result X Question} (told : told_by o ≡ first_no c lent) where
     -- it is 62 or 61
-    pub refused-early : {q : Question} → o ≡ Err q → {r : Taken} → r ≡ Err (refused_by q) → Restores readings r m
+    pub refused-early : {q : Question} → o ≡ Err q → {r : Taken} → r ≡ Err q → Restores readings r m
     refused-early {q} is {r} w = go (good_table c) (good_inputs lent) refl refl (ap told_by (sym is) ∙ told)
       where
         go : (a b : Bool) → good_table c ≡ a → good_inputs lent ≡ b → question_number q ≡ cond a (cond b 0 61) 62 → Restores readings r m
-        go false b x y h = restores (is-62 x) (w ∙ ap refusal h) (ap taken_number w ∙ h) refl
-        go true false x y h = restores (is-61 x y) (w ∙ ap refusal h) (ap taken_number w ∙ h) refl
+        go false b x y h = restores (is-62 x) (ap numbered w ∙ ap refusal h) (ap taken_number w ∙ h) refl
+        go true false x y h = restores (is-61 x y) (ap numbered w ∙ ap refusal h) (ap taken_number w ∙ h) refl
         go true true x y h = absurd (some q h)
 
-    module _ {u : Unit {0}} (none : o ≡ Ok u) where
+    module _ {u : X} (none : o ≡ Ok u) where
       yes-yes : (good_table c ≡ true) × (good_inputs lent ≡ true)
       yes-yes = both_yes c lent told (ap told_by none)
 
       pub asked : Asked c i j
       asked = record { table = subst T (sym yes-yes.0) tt; inputs = subst T (sym yes-yes.1) tt }
 
-      pub refused-63 : length m < limit.state → Restores readings (refusal 63) m
+      pub refused-63 : length m < limit.state → Restores readings (Err code.State) m
       unfolding read_of
       refused-63 h = restores (rw (yes-yes.0, yes-yes.1, lt-leb limit.state (length m) h) refl) refl refl refl
 
       module _ (h : limit.state ≤ length m) {f : Bool} (e : f ≡ sound_text t) where
-        pub refused-68 : f ≡ false → Restores readings (refusal 68) m
+        pub refused-68 : f ≡ false → Restores readings (Err code.Lines) m
         unfolding read_of
         refused-68 k = restores (rw (yes-yes.0, yes-yes.1, le-leb limit.state (length m) h, sym e ∙ k) refl) refl refl refl
 
@@ -184,7 +186,7 @@ module _ (c i j t m : List ℕ) where
           restorable z = record { asked = asked; sound = passed e y; zeros = z }
 
           module _ {r : Bool} {n : List ℕ} (q : Restored c i j t r n) where
-            pub refused-69 : r ≡ false → Restores readings (refusal 69) m
+            pub refused-69 : r ≡ false → Restores readings (Err code.Frames) m
             unfolding read_of
             refused-69 z = restores (rw (yes-yes.0, yes-yes.1, le-leb limit.state (length m) h, sym e ∙ y, sym q.answer ∙ z) refl) refl refl refl
 

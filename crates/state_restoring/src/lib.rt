@@ -10,23 +10,19 @@ ghost use Rattle.state_frames.specs.MemoryFrames.{Saveable};
 ghost use Rattle.state_frames.specs.Saved.{saved};
 ghost use Rattle.state_restoring.specs.Restoring.{Summed, Totalled, Restorable, Restored};
 
-use calls::Refused;
+use calls::Question;
 use check_memory::{Memory, Sums};
 use language::Machine;
 use layout::StatePlaces;
 use state_saving::SAVED;
+use tasks::{Lent, Task};
 
 // The totals of a state whose other cells are laid out, if its strings have room and are sound.
 fn totals_of(m: &[u8]) -> Option<Sums>
     requires { length m.now ≡ limit.state }
     ensures { Summed m.now result }
 {
-    let mut starts = [0u32; StatePlaces::STRINGS_COUNT];
-    let end = check_memory::starts_of(m, &mut starts);
-    if !check_memory::is_laid(m, end) {
-        return None;
-    }
-    let memory = Memory::new(m, &starts);
+    let memory = Memory::laid(m)?;
     if !memory.is_sound() {
         return None;
     }
@@ -58,16 +54,16 @@ fn is_saved(state: &[u8], text: &[u8]) -> bool
 
 // Question 69 of a text that question 68 lets pass: `m`, all zeros, becomes the state that the frames give. It is their state if it is well formed and
 // they are its frames.
-fn restore(table: &[u32], i1: &[u8], i2: &[u8], text: &[u8], m: &mut [u8]) -> bool
-    requires { Restorable table.now i1.now i2.now text.now m.old }
-    ensures { Restored table.now i1.now i2.now text.now result m.new }
+fn restore(task: Task, text: &[u8], m: &mut [u8]) -> bool
+    requires { Restorable task.table.cells.now task.first.now task.second.now text.now m.old }
+    ensures { Restored task.entry.table.cells.now task.entry.first.now task.entry.second.now text.now result m.new }
 {
     if SAVED < text.len() {
         return false;
     }
     state_contents::lay_state(text, m);
     fill_totals(m);
-    if !check_state::is_state(table, i1, i2, m) {
+    if !check_state::is_state(task, m) {
         return false;
     }
     is_saved(m, text)
@@ -75,25 +71,19 @@ fn restore(table: &[u32], i1: &[u8], i2: &[u8], text: &[u8], m: &mut [u8]) -> bo
 
 // "is every line hexadecimal with its length and sum right? 68. Are the frames in order, once each, the head there, none empty, and the state well
 // formed? 69. A refused call changes nothing."
-pub fn read_state(
-    table: &[u32],
-    i1: &[u8],
-    i2: &[u8],
-    text: &[u8],
-    state: &mut [u8],
-) -> Result<(), Refused>
-    ensures { Restores (read_of table.now (i1.now ∷ i2.now ∷ []) text.now state.old) result state.new }
+pub fn read_state(lent: Lent, text: &[u8], state: &mut [u8]) -> Result<(), Question>
+    ensures { Restores (read_of lent.entry.table.now (lent.entry.first.now ∷ lent.entry.second.now ∷ []) text.now state.old) result state.new }
 {
-    check_calls::ask(table, i1, i2)?;
+    let task = check_calls::ask(lent)?;
     if state.len() < Machine::STATE {
-        return Err(Refused { number: 63 });
+        return Err(Question::State);
     }
     if !state_lines::is_sound_text(text) {
-        return Err(Refused { number: 68 });
+        return Err(Question::Lines);
     }
     let mut m = [0u8; Machine::STATE];
-    if !restore(table, i1, i2, text, &mut m) {
-        return Err(Refused { number: 69 });
+    if !restore(task, text, &mut m) {
+        return Err(Question::Frames);
     }
     cells::put(state, 0, &m);
     Ok(())

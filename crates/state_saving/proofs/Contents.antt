@@ -50,9 +50,9 @@ module _ (k i : ℕ) (c : List ℕ) (at : ℕ) (o : List ℕ) (room : at + lengt
       let l = length-line-text k i c h in
       record { count = omega (arith, e, l); most = omega (arith, e, l, room); row = f ∙ ap (pasted o at) (sym (line-text k i c h)) }
 
-pub frame-room : {k i at long : ℕ} {c : List ℕ} → FrameFits (framed k i c) at long → 0 < length c → FrameRoom long at k i (length c)
+pub frame-room : {k i at long : ℕ} {c : List ℕ} → FrameFits (framed k i c) at long → 0 < length c → FrameRoom long at i (length c)
 frame-room {k} {i} {at} {long} {c} f h =
-    record { room = line-room k i c at long f.room h; kind_below = f.kind_below; index_below = f.index_below; short = f.short }
+    record { room = line-room k i c at long f.room h; index_below = f.index_below; short = f.short }
 
 -- ---- of a file
 

@@ -10,10 +10,12 @@ use lib.Seq.{take_at}
 use borrow.Author.Tests.{le-leb, lt-leb}
 use Rattle.calls.specs.Filling.{Filling, filled_in, Filled, Gives}
 use Rattle.calls.specs.Filling.Filling.{kept, fills}
+use Rattle.calls.specs.Questions.{question_number}
+use Rattle.calls.specs.declared.Question.{Question}
+use Rattle.calls.specs.declared.Question.TheVariants as code
 use Rattle.cells.specs.Cells.{pasted}
-use Rattle.check_calls.specs.Asked.{question_number, told_by, refused_by, first_no}
+use Rattle.check_calls.specs.Asked.{told_by, first_no}
 use Rattle.check_calls.specs.AskedLaws.{both_yes, some}
-use Rattle.check_calls.specs.declared.Question.{Question}
 use Rattle.check_state.specs.Asked.{Asked}
 use Rattle.language.specs.Values.{Inputs}
 use Rattle.layout.specs.Memory.{state_of, good_memory}
@@ -59,22 +61,19 @@ module _ (c i j M b : List ℕ) where
   abbrev room : Bool
   room = leb (length (saved (state_of M))) (length b)
 
-  abbrev no_by : ℕ → Filled
-  no_by number = Err (record { number = number })
-
-  refused-gives : {number : ℕ} → W ≡ kept number → Gives W (no_by number) b b
+  refused-gives : (q : Question) → W ≡ kept (question_number q) → Gives W (Err q) b b
   unfolding filled_in
-  refused-gives {number} e = subst (λ x. Gives x (no_by number) b b) (sym e) (record { result_is = refl; number_is = refl; cells_are = refl })
+  refused-gives q e = subst (λ x. Gives x (Err q) b b) (sym e) (record { result_is = refl; number_is = refl; cells_are = refl })
 
-  module _ {o : Result (Unit {0}) Question} (told : told_by o ≡ first_no c ins) where
-    pub first_gives : {q : Question} → o ≡ Err q → {r : Filled} → r ≡ Err (refused_by q) → Gives W r b b
+  module _ {X : Type 0} {o : Result X Question} (told : told_by o ≡ first_no c ins) where
+    pub first_gives : {q : Question} → o ≡ Err q → {r : Filled} → r ≡ Err q → Gives W r b b
     unfolding write_of
     first_gives {q} is {r} w =
         let n : question_number q ≡ first_no c ins = ap told_by (sym is) ∙ told in
         let e = first-refused (fills 80 (saved (state_of M))) (good_table c) (good_inputs ins) (well && room) (λ z. some q (n ∙ z)) in
-        subst (λ r. Gives W r b b) (sym w) (refused-gives (e ∙ ap kept (sym n)))
+        subst (λ r. Gives W r b b) (sym w) (refused-gives q (e ∙ ap kept (sym n)))
 
-    pub asked : {u : Unit {0}} → o ≡ Ok u → Asked c i j
+    pub asked : {u : X} → o ≡ Ok u → Asked c i j
     asked is = let y = both_yes c ins told (ap told_by is) in record { table = subst T (sym y.0) tt; inputs = subst T (sym y.1) tt }
 
   module _ (y : Asked c i j) where
@@ -82,17 +81,17 @@ module _ (c i j M b : List ℕ) where
     unfolding write_of
     decided e q = third (fills 80 (saved (state_of M))) (good_table c) (good_inputs ins) (well && room) e y.table y.inputs q
 
-    pub ill-gives : {t : Bool} → t ≡ well → t ≡ false → Gives W (no_by 63) b b
-    ill-gives e f = refused-gives (decided false (ap (λ (u : Bool). u && room) (sym e ∙ f)))
+    pub ill-gives : {t : Bool} → t ≡ well → t ≡ false → Gives W (Err code.State) b b
+    ill-gives e f = refused-gives code.State (decided false (ap (λ (u : Bool). u && room) (sym e ∙ f)))
 
     module _ {t : Bool} (e : t ≡ well) (f : t ≡ true) where
       pub saveable : Saveable M
       saveable = record { program = program_of c; inputs = ins; good = (table-facts c y.table).good; right = y.inputs; memory = subst T (sym f ∙ e) tt }
 
       module _ {o o' : List ℕ} {n : ℕ} (p : Put (saved (state_of M)) n o o') where
-        pub narrow_gives : length b < n → Gives W (no_by 63) b b
+        pub narrow_gives : length b < n → Gives W (Err code.State) b b
         narrow_gives h =
-            refused-gives (decided false (ap (λ (u : Bool). well && u) (lt-leb (length (saved (state_of M))) (length b) (omega (arith, p.count))) ∙ and-false well))
+            refused-gives code.State (decided false (ap (λ (u : Bool). well && u) (lt-leb (length (saved (state_of M))) (length b) (omega (arith, p.count))) ∙ and-false well))
 
         pub fitting-gives : n ≤ length b → {b' : List ℕ} → b' ≡ pasted b 0 (take n o') → Gives W (Ok n) b b'
         unfolding filled_in

@@ -8,7 +8,7 @@ use lib.Seq.{length-take-le, take_all, take-take, drop_at}
 use Rattle.cells.specs.Cells.{pasted}
 use Rattle.check_memory.proofs.Cells.{sum-lengths}
 use Rattle.check_memory.specs.Passes.{sizes, sum, all_strings}
-use Rattle.check_memory.specs.Reads.{Measurable, Started, Readable, StringLent}
+use Rattle.check_memory.specs.Reads.{Roomy, StringLent}
 use Rattle.language.specs.Limits as limit
 use Rattle.language.specs.Values.{State}
 use Rattle.layout.specs.Bounds.{Fine, AtRest}
@@ -70,7 +70,7 @@ module _ (m o : List ℕ) (f : FramesFit m (length o)) where
   head-long = length-take-le layout.components_cell m (omega (arith, f.cells))
 
   pub head_fits : FrameFits (framed head 0 (take layout.components_cell m)) 0 (length o)
-  head_fits = record { room = omega (arith, all_room); kind_below = omega arith; index_below = omega arith; short = omega (arith, head-long) }
+  head_fits = record { room = omega (arith, all_room); index_below = omega arith; short = omega (arith, head-long) }
 
   -- the same of the cells as they are lent
   module _ {l : List ℕ} (e : l ≡ m) where
@@ -85,7 +85,7 @@ module _ (m o : List ℕ) (f : FramesFit m (length o)) where
 
   module _ {a : ℕ} {o₁ : List ℕ} (x : Appended H 0 a o o₁) where
     pub expressions-fit : StringsFit m expression 0 limit.expressions a (length o₁)
-    expressions-fit = record { kind_below = omega arith; within = omega arith; room = omega (arith, all_room, x.count, appended-long x) }
+    expressions-fit = record { within = omega arith; room = omega (arith, all_room, x.count, appended-long x) }
 
     module _ {b : ℕ} {o₂ : List ℕ} (y : Appended E a b o₁ o₂) where
       pub files-fit : FilesFit m b (length o₂)
@@ -95,7 +95,6 @@ module _ (m o : List ℕ) (f : FramesFit m (length o)) where
         pub outputs-fit : StringsFit m output layout.first_output limit.outputs d (length o₃)
         outputs-fit =
             record {
-              kind_below = omega arith;
               within = omega arith;
               room = omega (arith, all_room, x.count, y.count, z.count, appended-long x, appended-long y, appended-long z);
             }
@@ -106,7 +105,6 @@ module _ (m o : List ℕ) (f : FramesFit m (length o)) where
               let q = ap (λ (w : List ℕ). length (text_of (framed stack 0 w ∷ []))) l.is in
               record {
                 room = omega (arith, all_room, q, x.count, y.count, z.count, u.count, appended-long x, appended-long y, appended-long z, appended-long u);
-                kind_below = omega arith;
                 index_below = omega arith;
                 short = l.small;
               }
@@ -134,9 +132,6 @@ module _ {M : List ℕ} (h : Saveable M) where
   pub cells-long : length cells ≡ limit.state
   cells-long = length-take-le limit.state M at_rest.long
 
-  pub measurable : Measurable cells layout.strings_count
-  measurable = record { long = cells-long; places = refl }
-
   strings-are : all_strings cells ≡ strings s
   strings-are = memory-strings h.program h.inputs M h.good h.right h.memory
 
@@ -159,8 +154,8 @@ module _ {M : List ℕ} (h : Saveable M) where
   text-most : length (text_of (memory_frames cells)) ≤ longest
   text-most = omega (arith, ap length text_is, saved-most s fine)
 
-  pub readable : {st : List ℕ} {e : ℕ} → Started cells st e → Readable cells st
-  readable g = record { long = cells-long; count = g.count; place = g.place; room = omega (arith, ap sum sizes-are, sum-lengths (strings s), fine-room s fine) }
+  pub roomy : Roomy cells
+  roomy = record { long = cells-long; room = omega (arith, ap sum sizes-are, sum-lengths (strings s), fine-room s fine) }
 
   pub frames-fit : {long : ℕ} → longest ≤ long → FramesFit cells long
   frames-fit k = record { cells = cells-long; short = omega (arith, ap used strings-are, fine-room s fine); room = omega (arith, text-most) }

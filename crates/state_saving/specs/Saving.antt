@@ -35,7 +35,6 @@ pub record Appended (fs : List Frame) (at r : ℕ) (o o' : List ℕ) : Type 0 wh
 -- among `long` bytes there is room for the frame f from `at` on
 pub record FrameFits (f : Frame) (at long : ℕ) : Type 0 where
   pub room : at + length (text_of (f ∷ [])) ≤ long
-  pub kind_below : f.kind < 256
   pub index_below : f.index < 256
   pub short : length f.contents < 65536
 
@@ -60,7 +59,6 @@ file_frames m = numbered file 1 (files_from m)
 
 -- there is room for them
 pub record StringsFit (m : List ℕ) (kind first count at long : ℕ) : Type 0 where
-  pub kind_below : kind < 256
   pub within : first + count ≤ layout.strings_count
   pub room : at + length (text_of (string_frames m kind first count)) ≤ long
 

@@ -11,19 +11,21 @@ ghost use Rattle.state_frames.specs.Saved.{file_contents, saved};
 ghost use Rattle.state_lines.specs.Kinds.{kind_number};
 ghost use Rattle.state_saving.specs.Saving.{longest, Put, Appended, FrameFits, FileFits, string_frames, file_frames, StringsFit, FilesFit, memory_frames, FramesFit};
 
-use calls::{Filled, Refused};
+use calls::{Filled, Question};
 use check_memory::Memory;
 use language::Machine;
 use layout::StatePlaces;
 use state_lines::{Kind, Slot};
+use tasks::Lent;
 
 // The longest text of a state.
 pub const SAVED: usize = 47754;
 
-// Writes the frame of contents, unless they are empty, and tells where the next begins: the memory is lent, so a place goes in and out.
+// Writes the frame of contents, unless they are empty, and tells where the next begins. A place goes in and the next one comes out, here and below: the
+// row is a local of the caller and of fixed size, since there is no heap for one that grows.
 fn put_some(out: &mut [u8], at: usize, slot: Slot, contents: &[u8]) -> usize
-    requires { FrameFits (framed slot.kind slot.index contents.now) at (length out.old) }
-    ensures { Appended (framed slot.kind slot.index contents.now ∷ []) at result out.old out.new }
+    requires { FrameFits (framed (kind_number slot.kind) slot.index contents.now) at (length out.old) }
+    ensures { Appended (framed (kind_number slot.kind) slot.index contents.now ∷ []) at result out.old out.new }
 {
     let n = contents.len();
     if n == 0 {
@@ -61,10 +63,7 @@ fn put_strings(
     let mut at = from;
     for i in 0..count {
         let v = memory.string(first + i);
-        let slot = Slot {
-            kind: usize::from(kind),
-            index: i + 1,
-        };
+        let slot = Slot { kind, index: i + 1 };
         at = put_some(out, at, slot, v);
     }
     at
@@ -116,23 +115,21 @@ pub fn put_saved(state: &[u8], out: &mut [u8]) -> usize
     ensures { Put (saved (state_of state.now)) result out.old out.new }
 {
     let m = &state[..Machine::STATE];
-    let mut starts = [0u32; StatePlaces::STRINGS_COUNT];
-    check_memory::starts_of(m, &mut starts);
-    put_frames(&Memory::new(m, &starts), out)
+    put_frames(&Memory::new(m), out)
 }
 
 // "Write a state as lines of hexadecimal": 62 and 61 first; "An ill-formed state to write, or memory too short, brings 63".
-pub fn write_state(table: &[u32], i1: &[u8], i2: &[u8], state: &[u8], out: &mut [u8]) -> Filled
-    ensures { Gives (write_of table.now (i1.now ∷ i2.now ∷ []) state.now (length out.old)) result out.old out.new }
+pub fn write_state(lent: Lent, state: &[u8], out: &mut [u8]) -> Filled
+    ensures { Gives (write_of lent.entry.table.now (lent.entry.first.now ∷ lent.entry.second.now ∷ []) state.now (length out.old)) result out.old out.new }
 {
-    check_calls::ask(table, i1, i2)?;
-    if !check_state::is_state(table, i1, i2, state) {
-        return Err(Refused { number: 63 });
+    let task = check_calls::ask(lent)?;
+    if !check_state::is_state(task, state) {
+        return Err(Question::State);
     }
     let mut made = [0u8; SAVED];
     let n = put_saved(state, &mut made);
     if out.len() < n {
-        return Err(Refused { number: 63 });
+        return Err(Question::State);
     }
     cells::put(out, 0, &made[..n]);
     Ok(n as u32)

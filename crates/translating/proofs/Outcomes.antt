@@ -9,12 +9,14 @@ use borrow.Author.Tests.{lt-leb}
 use Rattle.appending.specs.Appending.{Written, Writes}
 use Rattle.calls.specs.Filling.{filled_in, Filled, Gives}
 use Rattle.calls.specs.Filling.Filling.{kept}
+use Rattle.calls.specs.declared.Question.TheVariants as code
 use Rattle.cells.specs.Cells.{pasted}
 use Rattle.editions.proofs.AnswerLaws.{unloaded-67, macros-67, narrow-67, long-67, fitting-80}
 use Rattle.editions.specs.Convert.{respelled, loads, convert_of}
 use Rattle.language.specs.Limits as limit
 use Rattle.loading.specs.Texts.{Leaves}
 use Rattle.loading.specs.Told.{Loaded, told}
+use Rattle.loading.specs.ToldLaws.{numbered-ok}
 use Rattle.macros.specs.Load.{load_in, load_of}
 use Rattle.macros.proofs.LoadLaws.{plain-loads, accepted-plain}
 use Rattle.macros.specs.Marks.{has_macros}
@@ -48,12 +50,12 @@ module _ (s : List ℕ) (short : length s ≤ limit.text) where
           ∙ ap (λ b. loads (load_of s) && not b) (sym e)
 
   pub taken-by : {c d : List ℕ} {r : Loaded} → Leaves (load_typed s) c r d → is_ok r ≡ taken s
-  taken-by k = ap is_ok k.is ∙ typed-loads
+  taken-by {r = r} k = sym (numbered-ok r) ∙ ap is_ok k.is ∙ typed-loads
 
 -- ---- 67
 
 abbrev refused : Filled
-refused = Err (record { number = 67 })
+refused = Err code.Conversion
 
 module _ (s b : List ℕ) where
   kept_gives : convert_of (length b) s ≡ kept 67 → Gives (convert_of (length b) s) refused b b

@@ -6,7 +6,7 @@ use Prim.Native.Nat.{ℕ, ◌+◌, ◌-◌, ◌≤◌, ◌<◌}
 use native.Mathlib.Omega.{arith}
 use lib.ListN.{length, take, drop, length-append, length-take, length-drop}
 use lib.Seq.{take-length}
-use Rattle.std.specs.Prelude.{Option, None, Some, MatchOption}
+use Rattle.std.specs.Prelude.{Option, None, Some}
 use Rattle.std.specs.Option.{is_some, option_to_list}
 use Rattle.lists.specs.Lists.{filled}
 use Rattle.syntax.specs.Items.{is}
@@ -174,12 +174,3 @@ module _ {s : List ℕ} {t : Token} {p : Pass} {c : List ℕ} (g : Reached s p c
 
 pub unpassed : {s : List ℕ} {t : Token} {r : Option Pass} {c : List ℕ} → r ≡ None → length c < length (respelled s) → Passes s t r c
 unpassed {s} {t} {r} {c} e l = subst (λ r. Passes s t r c) (sym e) (record { told = l })
-
-module _ {s : List ℕ} {t : Token} {r : Option Pass} {c : List ℕ} (k : Passes s t r c) where
-  pub passed-on : {p : Pass} → r ≡ Some p → Passed s t p c
-  passed-on e = subst (λ r. MatchOption r (length c < length (respelled s)) (λ p. Passed s t p c)) e k.told
-
-  pub written-off : r ≡ None → {n : Option ℕ} → n ≡ None → Writes (respelled s) n c
-  written-off e q =
-      let l = subst (λ r. MatchOption r (length c < length (respelled s)) (λ p. Passed s t p c)) e k.told in
-      subst (λ n. Writes (respelled s) n c) (sym q) (record { told = l })

@@ -11,18 +11,15 @@ ghost use Rattle.syntax.specs.Statements.{is_operator};
 ghost use Rattle.translating.specs.Translating.{taken, Passable, Passes};
 
 use appending::append;
-use calls::{Filled, Refused};
+use calls::{Filled, Question};
 use language::Machine;
 use lexer::{Token, next_item};
 use scanner::Sort;
 use words::append_other;
 
-// Question 67 answered no.
-const REFUSED: Refused = Refused { number: 67 };
-
 // How far a text is read and written: the place from which the next item is sought, whether the operator of the statement there is still to come, the
 // place up to which all is written, and how many bytes were.
-#[derive(Clone, Copy)]
+#[derive(Clone, Copy, Debug, PartialEq, Eq)]
 struct Pass {
     next: usize,
     awaited: bool,
@@ -76,15 +73,12 @@ fn respell(text: &[u8], made: &mut [u8]) -> Option<usize>
         from: 0,
         count: 0,
     };
-    loop {
-        let n = p.next;
-        let t = next_item(text, n);
-        if t.sort.is_none() {
-            let from = p.from;
-            return append(made, p.count, &text[from..]);
-        }
+    let mut t = next_item(text, 0);
+    while t.sort.is_some() {
         p = passed(text, t, p, made)?;
+        t = next_item(text, p.next);
     }
+    append(made, p.count, &text[p.from..])
 }
 
 // Whether a text loads and has no macro list. As it stands, one with a macro list is refused.
@@ -103,10 +97,10 @@ fn turn(text: &[u8], out: &mut [u8]) -> Filled
 {
     let mut made = [0u8; Machine::TEXT];
     let Some(n) = respell(text, &mut made) else {
-        return Err(REFUSED);
+        return Err(Question::Conversion);
     };
     if out.len() < n {
-        return Err(REFUSED);
+        return Err(Question::Conversion);
     }
     out[..n].copy_from_slice(&made[..n]);
     Ok(n as u32)
@@ -117,10 +111,10 @@ pub fn convert(text: &[u8], out: &mut [u8]) -> Filled
     ensures { Gives (convert_of (length out.old) text.now) result out.old out.new }
 {
     if Machine::TEXT < text.len() {
-        return Err(REFUSED);
+        return Err(Question::Conversion);
     }
     if !is_taken(text) {
-        return Err(REFUSED);
+        return Err(Question::Conversion);
     }
     turn(text, out)
 }

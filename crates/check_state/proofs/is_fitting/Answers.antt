@@ -8,7 +8,7 @@ use Rattle.check_state.proofs.is_fitting.Goals as goal
 
 pub returns : goal.returns
 returns c =
-    let a = c.args.lent in
+    let a = c.args.task in
     let e = c.cells-m.ensures.is in
     let first = subst (λ l. Number (three_at layout.first_place_cell l) 16777216 c.three_at.result) e c.three_at.ensures in
     let second = subst (λ l. Number (three_at layout.second_place_cell l) 16777216 c.three_at-2.result) e c.three_at-2.ensures in

@@ -2,7 +2,6 @@
 use native.Mathlib.Omega.{arith}
 use mathlib.Core.Path.{refl, sym}
 use lib.Seq.{length-take-le}
-use Rattle.check_state.proofs.Returns.{table-long}
 use Rattle.check_state.proofs.Steps.{short-answer, answer}
 use Rattle.language.specs.Limits as limit
 use Rattle.check_state.proofs.is_state.Goals as goal
@@ -10,20 +9,17 @@ use Rattle.check_state.proofs.is_state.Goals as goal
 pub returns-then-state-lt-STATE : goal.returns-then-state-lt-STATE
 returns-then-state-lt-STATE c =
     let args = c.args in
-    short-answer args.table.now args.i1.now args.i2.now args.state.now c.if-state-lt-STATE.true
+    short-answer args.task.table.cells.now args.task.first.now args.task.second.now args.state.now c.if-state-lt-STATE.true
 
 pub slice_bounds-is_passed-end : goal.slice_bounds-is_passed-end
 slice_bounds-is_passed-end c = sym (length-take-le limit.state c.args.state.now c.if-state-lt-STATE.false)
-
-pub invariant_of-lent : goal.invariant_of-lent
-invariant_of-lent c = record { long = table-long c.args.table.now c.requires.table }
 
 pub is_passed-requires : goal.is_passed-requires
 is_passed-requires c =
     let args = c.args in
     let pre = c.requires in
     let if1 = c.if-state-lt-STATE in
-    record { table = pre.table; long = length-take-le limit.state args.state.now if1.false; starts_is = refl; addresses_is = refl }
+    record { table = pre.table; long = length-take-le limit.state args.state.now if1.false; addresses_is = refl }
 
 pub returns : goal.returns
 returns c =
@@ -31,4 +27,4 @@ returns c =
     let pre = c.requires in
     let if1 = c.if-state-lt-STATE in
     let is-passed = c.is_passed in
-    answer args.table.now args.i1.now args.i2.now args.state.now pre if1.false (λ j. omega (arith, c.type_inv.state j)) is-passed.ensures
+    answer args.task.table.cells.now args.task.first.now args.task.second.now args.state.now pre if1.false (λ j. omega (arith, c.type_inv.state j)) is-passed.ensures

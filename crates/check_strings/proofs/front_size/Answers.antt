@@ -29,20 +29,20 @@ returns-then-b-eq0 c =
     let three_at = c.three_at in
     front-shown args.b.now size-by.ensures if1.false if2.true three_at.ensures c.is_short.ensures c.then_some.ensures
 
-pub slice_bounds-are_known-count : goal.slice_bounds-are_known-count
-slice_bounds-are_known-count c =
+pub slice_bounds-all_known-count : goal.slice_bounds-all_known-count
+slice_bounds-all_known-count c =
     let args = c.args in
     let size-by = c.size_by-n in
     omega (arith, size-by.ensures.is, size-most (cell args.b.now 0))
 
-pub slice_bounds-are_known-start : goal.slice_bounds-are_known-start
-slice_bounds-are_known-start c =
+pub slice_bounds-all_known-start : goal.slice_bounds-all_known-start
+slice_bounds-all_known-start c =
     let args = c.args in
     let size-by = c.size_by-n in
     omega (arith, size-by.ensures.is, size-most (cell args.b.now 0))
 
-pub slice_bounds-are_known-end : goal.slice_bounds-are_known-end
-slice_bounds-are_known-end c = c.if-b-n.false
+pub slice_bounds-all_known-end : goal.slice_bounds-all_known-end
+slice_bounds-all_known-end c = c.if-b-n.false
 
 pub returns : goal.returns
 returns c =
@@ -50,4 +50,4 @@ returns c =
     let size-by = c.size_by-n in
     let if1 = c.if-b-n in
     let if2 = c.if-b-eq0 in
-    front-spelled args.b.now size-by.ensures if1.false if2.false c.are_known.ensures c.then_some-2.ensures
+    front-spelled args.b.now size-by.ensures if1.false if2.false c.all_known.ensures c.then_some-2.ensures

@@ -10,4 +10,4 @@ use Rattle.check_table.proofs.text_stays.Goals as goal
 
 pub returns : goal.returns
 unfolding text_stays text_new
-returns c = rw (c.text_fits.ensures) (ap (λ (r : Bool). text_fits (table_of c.args.table.now) c.args.i && r) (passes_all _ (c.args.i + 1) c.args.n _ refl _ _ _ c.all.ensures.ran (λ x b q k. search (rules, tests))))
+returns c = rw (c.text_fits.ensures) (ap (λ (r : Bool). text_fits (table_of c.args.table.cells.now) c.args.i && r) (passes_all _ (c.args.i + 1) c.args.n _ refl _ _ _ c.all.ensures.ran (λ x b q k. search (rules, tests))))

@@ -1,16 +1,19 @@
 -- `class_running::run_pupil` meets its contract.
-use Rattle.class_running.proofs.Seating.{refused-told, runnable, showable, answered}
+use Rattle.class_running.proofs.Seating.{table-long, refused-told, runnable, showable, answered}
 use mathlib.Core.Path.{refl}
 use Rattle.class_running.proofs.run_pupil.Goals as goal
 
 pub returns-then-not-are_inputs : goal.returns-then-not-are_inputs
-returns-then-not-are_inputs c = refused-told c.requires c.args.input.now c.args.budget c.are_inputs.ensures (c.if-not-are_inputs.true) refl
+returns-then-not-are_inputs c = refused-told c.requires c.args.input.now c.args.budget c.are_inputs.ensures (c.if-not-are_inputs.true)
 
-pub run-r-requires : goal.run-r-requires
-run-r-requires c = runnable c.requires c.args.input.now c.args.budget c.args.state.now c.are_inputs.ensures (c.if-not-are_inputs.false) refl c.start.ensures
+pub invariant_of-task : goal.invariant_of-task
+invariant_of-task c = record { long = table-long c.requires }
 
-pub show-shown-requires : goal.show-shown-requires
-show-shown-requires c = showable c.requires c.args.input.now c.args.budget c.args.state.now c.are_inputs.ensures (c.if-not-are_inputs.false) refl c.start.ensures c.run-r.ensures
+pub run-ran-requires : goal.run-ran-requires
+run-ran-requires c = runnable c.requires c.args.input.now c.args.budget c.args.state.now c.are_inputs.ensures (c.if-not-are_inputs.false) refl c.start.ensures
+
+pub show-length-requires : goal.show-length-requires
+show-length-requires c = showable c.requires c.args.input.now c.args.budget c.args.state.now c.are_inputs.ensures (c.if-not-are_inputs.false) refl c.start.ensures c.run-ran.ensures
 
 pub returns : goal.returns
-returns c = answered c.requires c.args.input.now c.args.budget c.args.state.now c.are_inputs.ensures (c.if-not-are_inputs.false) refl c.start.ensures c.run-r.ensures c.show-shown.ensures refl
+returns c = answered c.requires c.args.input.now c.args.budget c.args.state.now c.are_inputs.ensures (c.if-not-are_inputs.false) refl c.start.ensures c.run-ran.ensures c.show-length.ensures

@@ -1,4 +1,5 @@
 -- `hexadecimal::get_bytes` meets its contract. The invariant: the first j bytes are read.
+use Rattle.std.proofs.Common.{rules, ◌≡◌, None}
 use native.Mathlib.Omega.{arith}
 use mathlib.Core.Path.{refl, sym, ◌∙◌}
 use lib.ListN.{length-set}
@@ -8,17 +9,18 @@ use Rattle.hexadecimal.proofs.get_bytes.Goals as goal
 pub loop-j-init : goal.loop-j-init
 loop-j-init c = (refl, read_none c.args.dst.now c.args.to c.args.text.now c.args.at)
 
-pub returns-in_default : goal.returns-in_default
-returns-in_default c =
+pub returns-in_err-b : goal.returns-in_err-b
+returns-in_err-b c =
     let loop = c.loop-j in
-    let e = told-byte-none _ _ (sym c.byte_at.ensures ∙ c.in_default.is) in
-    record { told = read-stops c.args.dst.now c.args.to c.args.text.now c.args.at c.args.n loop.j loop.dst loop.invariant.1 c.requires.fits c.requires.there (omega arith) 256 e (omega arith); bytes = λ h. absurd h }
+    let e = told-byte-none _ _ (sym c.byte_at.ensures ∙ c.in_err-b.was) in
+    let none : c.from_residual.result ≡ None = search rules in
+    rw none (record { told = read-stops c.args.dst.now c.args.to c.args.text.now c.args.at c.args.n loop.j loop.dst loop.invariant.1 c.requires.fits c.requires.there (omega arith) 256 e (omega arith); bytes = λ h. absurd h })
 
 pub loop-j-preserved : goal.loop-j-preserved
 loop-j-preserved c =
     let loop = c.loop-j in
-    let e = told-byte-some _ _ c.in-Some.b (sym c.byte_at.ensures ∙ c.in-Some.is) in
-    (simp length-set (omega arith), read-turn c.args.dst.now c.args.to c.args.text.now c.args.at c.args.n loop.j loop.dst loop.invariant.1 c.requires.fits c.requires.there (omega arith) c.in-Some.b e.0 e.1)
+    let e = told-byte-some _ _ c.in_ok-b.b (sym c.byte_at.ensures ∙ c.in_ok-b.was) in
+    (simp length-set (omega arith), read-turn c.args.dst.now c.args.to c.args.text.now c.args.at c.args.n loop.j loop.dst loop.invariant.1 c.requires.fits c.requires.there (omega arith) c.in_ok-b.b e.0 e.1)
 
 pub returns : goal.returns
 returns c = let loop = c.loop-j in read_all c.args.dst.now c.args.to c.args.text.now c.args.at c.args.n loop.j loop.dst loop.invariant.1 (omega arith) (omega arith)

@@ -1,13 +1,10 @@
 -- `running::run` meets its contract.
 use Rattle.running.proofs.Empty.{lies}
-use Rattle.running.proofs.Loop.{table-long, openable, steppable, memory-long, ran_on}
+use Rattle.running.proofs.Loop.{openable, steppable, memory-long, ran_on}
 use Rattle.running.proofs.run.Goals as goal
 
 pub invariant_of-bench : goal.invariant_of-bench
 invariant_of-bench c = lies c.new-strings.ensures
-
-pub invariant_of-task : goal.invariant_of-task
-invariant_of-task c = record { long = table-long c.requires }
 
 pub open-requires : goal.open-requires
 open-requires c = openable c.requires

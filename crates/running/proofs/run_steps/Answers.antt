@@ -11,7 +11,7 @@ loop-count-init c = going-none c.requires c.args.budget
 pub returns-in-Err : goal.returns-in-Err
 returns-in-Err c =
     let told = ap told_by c.in-Err.is in
-    ran-stop c.loop-count.invariant c.step.ensures c.loop-count-test.true (λ z. some c.in-Err.q (sym told ∙ z)) (c.from.ensures ∙ sym told) refl
+    ran-stop c.loop-count.invariant c.step.ensures c.loop-count-test.true (λ z. some c.in-Err.q (sym told ∙ z)) (sym told) refl
 
 pub loop-count-preserved : goal.loop-count-preserved
 loop-count-preserved c = going_more c.loop-count.invariant c.step.ensures c.loop-count-test.true (ap told_by c.in_default.is)

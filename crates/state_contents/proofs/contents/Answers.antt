@@ -1,54 +1,45 @@
--- `state_contents::contents` meets its contract. The invariant: what the frames before `at` add stands in the row.
-use Rattle.std.proofs.Common.{rules, ◌≡◌, None}
+-- `state_contents::contents` meets its contract. The invariant: what the frames before the rest add stands in the row.
+use Rattle.std.proofs.Common.{rules, ◌≡◌, ◌<◌, length, None}
 use native.Mathlib.Omega.{arith}
-use mathlib.Core.Path.{refl, sym, ◌∙◌}
-use Rattle.hexadecimal.proofs.Laws.{told-byte-some}
-use Rattle.state_contents.proofs.Gathering.{gathering-none, gathering-none-more, next, high-told, low-told, size-next, line-fits, gathering-more, gathering-all}
+use mathlib.Core.Path.{refl}
+use Rattle.state_lines.specs.Kinds.{kind_number}
+use Rattle.state_contents.proofs.Gathering.{measured, gathering-none, next, split-fits, lined, gathering-none-more, gathering-more, gathering-all}
 use Rattle.state_contents.proofs.contents.Goals as goal
 
-pub loop-at-init : goal.loop-at-init
-loop-at-init c =
+pub loop-rest-init : goal.loop-rest-init
+loop-rest-init c =
     let a = c.args in
-    (refl, gathering-none a.text.now a.slot.kind a.slot.index a.row.now c.requires)
+    (refl, gathering-none a.text.now (kind_number a.slot.kind) a.slot.index a.row.now c.requires)
 
-pub byte_at-requires : goal.byte_at-requires
-byte_at-requires c = omega (arith, (next c.loop-at.invariant.1 c.loop-at-test.true).within)
+pub contents_length-size-requires : goal.contents_length-size-requires
+contents_length-size-requires c =
+    let some : 0 < length c.loop-rest.rest.now = search rules in
+    measured (next c.loop-rest.invariant.1 some).begins
 
-pub unwrap-high-requires : goal.unwrap-high-requires
-unwrap-high-requires c = rw (c.byte_at.ensures, high-told (next c.loop-at.invariant.1 c.loop-at-test.true).line) refl
-
-pub byte_at-requires-in-loop-at : goal.byte_at-requires-in-loop-at
-byte_at-requires-in-loop-at c = omega (arith, (next c.loop-at.invariant.1 c.loop-at-test.true).within)
-
-pub unwrap-low-requires : goal.unwrap-low-requires
-unwrap-low-requires c = rw (c.byte_at-in-loop-at.ensures, low-told (next c.loop-at.invariant.1 c.loop-at-test.true).line) refl
+pub split_at-requires : goal.split_at-requires
+split_at-requires c =
+    let some : 0 < length c.loop-rest.rest.now = search rules in
+    split-fits c.loop-rest.invariant.1 some c.contents_length-size.ensures.is c.line_length.ensures
 
 pub gather-requires : goal.gather-requires
 gather-requires c =
-    let g = c.loop-at.invariant.1 in
-    let high = told-byte-some _ _ c.unwrap-high.result (sym c.byte_at.ensures ∙ c.unwrap-high.ensures) in
-    let low = told-byte-some _ _ c.unwrap-low.result (sym c.byte_at-in-loop-at.ensures ∙ c.unwrap-low.ensures) in
-    record { line = line-fits g c.loop-at-test.true c.from.result c.from-in-loop-at.result (c.from.ensures ∙ high.0) (c.from-in-loop-at.ensures ∙ low.0); fewer = g.fewer; fits = g.room }
+    let some : 0 < length c.loop-rest.rest.now = search rules in
+    let g = c.loop-rest.invariant.1 in
+    (lined g some c.contents_length-size.ensures.is c.line_length.ensures c.split_at.ensures.front, g.room)
 
 pub returns-in_err-n : goal.returns-in_err-n
 returns-in_err-n c =
-    let loop = c.loop-at in
-    let h = c.loop-at-test.true in
-    let high = told-byte-some _ _ c.unwrap-high.result (sym c.byte_at.ensures ∙ c.unwrap-high.ensures) in
-    let low = told-byte-some _ _ c.unwrap-low.result (sym c.byte_at-in-loop-at.ensures ∙ c.unwrap-low.ensures) in
-    let size = size-next loop.invariant.1 h c.from.result c.from-in-loop-at.result (c.from.ensures ∙ high.0) (c.from-in-loop-at.ensures ∙ low.0) in
+    let some : 0 < length c.loop-rest.rest.now = search rules in
     let e : c.from_residual.result ≡ None = search rules in
-    rw e (gathering-none-more loop.invariant.1 h size c.gather.ensures c.in_err-n.was (omega arith))
+    rw e (gathering-none-more c.loop-rest.invariant.1 some c.contents_length-size.ensures.is c.line_length.ensures c.split_at.ensures.front c.gather.ensures (omega arith) c.in_err-n.was)
 
-pub loop-at-preserved : goal.loop-at-preserved
-loop-at-preserved c =
-    let loop = c.loop-at in
-    let h = c.loop-at-test.true in
-    let gather = c.gather in
-    let high = told-byte-some _ _ c.unwrap-high.result (sym c.byte_at.ensures ∙ c.unwrap-high.ensures) in
-    let low = told-byte-some _ _ c.unwrap-low.result (sym c.byte_at-in-loop-at.ensures ∙ c.unwrap-low.ensures) in
-    let size = size-next loop.invariant.1 h c.from.result c.from-in-loop-at.result (c.from.ensures ∙ high.0) (c.from-in-loop-at.ensures ∙ low.0) in
-    (omega (arith, loop.invariant.0), gathering-more loop.invariant.1 h size gather.ensures c.in_ok-n.was (omega arith) c.line_length-at.ensures)
+pub loop-rest-preserved : goal.loop-rest-preserved
+loop-rest-preserved c =
+    let some : 0 < length c.loop-rest.rest.now = search rules in
+    let loop = c.loop-rest in
+    (omega (arith, loop.invariant.0), gathering-more loop.invariant.1 some c.contents_length-size.ensures.is c.line_length.ensures c.split_at.ensures.front c.gather.ensures (omega arith) c.in_ok-n.was c.split_at.ensures.back)
 
 pub returns : goal.returns
-returns c = gathering-all c.loop-at.invariant.1 c.loop-at-test.false
+returns c =
+    let none : length c.loop-rest.rest.now ≡ 0 = search rules in
+    gathering-all c.loop-rest.invariant.1 none

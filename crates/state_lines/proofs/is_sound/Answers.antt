@@ -1,6 +1,6 @@
 -- `state_lines::is_sound` meets its contract.
-use Rattle.std.proofs.Common.{◌≡◌, ◌∙◌, ap, sym, refl, arith, ℕ, ◌/◌, length, Some}
-use Rattle.hexadecimal.proofs.Laws.{told-byte-some}
+use Rattle.std.proofs.Common.{◌≡◌, ◌∙◌, ap, sym, refl, arith, ℕ, ◌/◌, ◌+◌, length, Some}
+use lib.Dec.{eqb}
 use Rattle.state_lines.specs.Sums.{told_sum}
 use Rattle.state_lines.proofs.Laws.{told_none, told_some, told_two, out-even, out-last, out-short, out-sum, out-all}
 use Rattle.state_lines.proofs.is_sound.Goals as goal
@@ -26,25 +26,24 @@ returns-then-sum-ne0 c =
     let k = length l / 2 in
     out-sum l k (omega (arith, c.if-n-eq0.false)) c.in-Some.sum (told_some l k c.in-Some.sum (sym c.sum_digits.ensures ∙ c.in-Some.is)) c.if-sum-ne0.true
 
-pub unwrap-high-requires : goal.unwrap-high-requires
-unwrap-high-requires c =
+pub contents_length-requires : goal.contents_length-requires
+contents_length-requires c =
     let l = c.args.line.now in
     let k = length l / 2 in
+    let odd = c.if-n-eq0.false in
     let e : told_sum l k ≡ Some 0 = sym c.sum_digits.ensures ∙ c.in-Some.is ∙ ap (λ (n : ℕ). Some n) c.if-sum-ne0.false in
-    rw (c.byte_at.ensures, told_two l k (omega (arith, c.if-n-eq0.false)) e c.if-k-lt5.false 4 (omega arith)) refl
+    record {
+      there = omega (arith, c.if-k-lt5.false);
+      high = told_two l k (omega (arith, odd)) e c.if-k-lt5.false 4 (omega arith);
+      low = told_two l k (omega (arith, odd)) e c.if-k-lt5.false 6 (omega arith);
+    }
 
-pub unwrap-low-requires : goal.unwrap-low-requires
-unwrap-low-requires c =
-    let l = c.args.line.now in
-    let k = length l / 2 in
-    let e : told_sum l k ≡ Some 0 = sym c.sum_digits.ensures ∙ c.in-Some.is ∙ ap (λ (n : ℕ). Some n) c.if-sum-ne0.false in
-    rw (c.byte_at-2.ensures, told_two l k (omega (arith, c.if-n-eq0.false)) e c.if-k-lt5.false 6 (omega arith)) refl
+pub overflow_add-result : goal.overflow_add-result
+overflow_add-result c = omega (arith, c.contents_length.ensures.most)
 
 pub returns : goal.returns
 returns c =
     let l = c.args.line.now in
     let k = length l / 2 in
     let e : told_sum l k ≡ Some 0 = sym c.sum_digits.ensures ∙ c.in-Some.is ∙ ap (λ (n : ℕ). Some n) c.if-sum-ne0.false in
-    let high = told-byte-some _ _ c.unwrap-high.result (sym c.byte_at.ensures ∙ c.unwrap-high.ensures) in
-    let low = told-byte-some _ _ c.unwrap-low.result (sym c.byte_at-2.ensures ∙ c.unwrap-low.ensures) in
-    out-all l k (omega (arith, c.if-n-eq0.false)) 0 c.from.result c.from-2.result _ c.if-line-k-ne10.false c.if-k-lt5.false (told_some l k 0 e) refl (c.from.ensures ∙ high.0) (c.from-2.ensures ∙ low.0) refl
+    out-all l k (omega (arith, c.if-n-eq0.false)) 0 _ _ _ c.if-line-k-ne10.false c.if-k-lt5.false (told_some l k 0 e) refl refl refl (ap (λ (n : ℕ). eqb k (5 + n)) c.contents_length.ensures.is)

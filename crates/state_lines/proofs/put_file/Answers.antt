@@ -1,6 +1,16 @@
 -- `state_lines::put_file` meets its contract.
+use mathlib.Core.Path.{ap, ◌∙◌}
+use Prim.Native.Nat.{ℕ, ◌+◌, ◌/◌, ◌%◌}
+use lib.ListN.{length}
+use Rattle.hexadecimal.specs.Below.Frames.{sum}
 use Rattle.state_lines.proofs.Writing.{file-put}
 use Rattle.state_lines.proofs.put_file.Goals as goal
 
 pub returns : goal.returns
-returns c = let lengths = c.put_lengths in let first = c.put_bytes in let second = c.put_bytes-2 in let end = c.put_end in file-put c.args.dst.now c.args.at c.args.index c.args.before.now c.args.after.now c.requires.room c.requires.some c.sum_from-sum.result c.sum_from-all.result lengths.new.dst first.new.dst second.new.dst end.new.dst c.sum_from-sum.ensures.is c.sum_from-all.ensures.is lengths.ensures first.ensures second.ensures end.ensures
+returns c =
+    let a = c.args in
+    let b = a.before.now in
+    let k = length b in
+    let n = 2 + (k + length a.after.now) in
+    let total = c.sum_from-sum.ensures.is ∙ ap (λ (f : ℕ). ((f + (a.index + (n / 256 + (n % 256 + (k % 256 + k / 256))))) % 256 + sum b) % 256) c.from.ensures in
+    file-put a.dst.now a.at a.index b a.after.now c.requires.room c.requires.some c.sum_from-sum.result c.sum_from-all.result c.put_lengths.new.dst c.put_bytes.new.dst c.put_bytes-2.new.dst c.put_end.new.dst total c.sum_from-all.ensures.is c.put_lengths.ensures c.put_bytes.ensures c.put_bytes-2.ensures c.put_end.ensures

@@ -1,40 +1,47 @@
 -- `state_saving::write_state` meets its contract.
 use native.Mathlib.Omega.{arith}
-use mathlib.Core.Path.{sym, ap, ◌∙◌}
+use mathlib.Core.List.{[], ◌∷◌}
+use mathlib.Core.Path.{◌≡◌, sym}
 use lib.Seq.{length-take-le}
-use Rattle.std.proofs.lemmas.Result.{err_from_is_err_and}
-use Rattle.std.specs.Prelude.{Err}
+use Rattle.std.proofs.Common.{rules, Err}
+use Rattle.check_calls.specs.AskedLaws.{has, of_task, of_lent}
+use Rattle.check_state.specs.Asked.{Asked}
+use Rattle.layout.specs.Memory.{good_memory}
+use Rattle.layout.specs.Table.{program_of}
 use Rattle.state_saving.proofs.Outcomes.{first_gives, asked, ill-gives, saveable, narrow_gives, fitting-gives}
 use Rattle.state_saving.proofs.write_state.Goals as goal
 
-pub returns-in_err-ask : goal.returns-in_err-ask
-returns-in_err-ask c =
+pub returns-in_err-task : goal.returns-in_err-task
+returns-in_err-task c =
     let a = c.args in
-    let e = err_from_is_err_and c.from_residual.result c.from_residual.ensures.1 in
-    first_gives a.table.now a.i1.now a.i2.now a.state.now a.out.now c.ask.ensures c.in_err-ask.was (e.1 ∙ ap Err e.2)
+    let e : c.from_residual.result ≡ Err c.in_err-task.field-0.0 = search rules in
+    first_gives a.lent.table.now a.lent.first.now a.lent.second.now a.state.now a.out.now c.ask.ensures.is c.in_err-task.was e
 
 pub is_state-requires : goal.is_state-requires
 is_state-requires c =
     let a = c.args in
-    asked a.table.now a.i1.now a.i2.now a.state.now a.out.now c.ask.ensures c.in_ok-ask.was
+    of_task (has c.ask.ensures c.in_ok-task.was) Asked (asked a.lent.table.now a.lent.first.now a.lent.second.now a.state.now a.out.now c.ask.ensures.is c.in_ok-task.was)
 
 pub returns-then-not-is_state : goal.returns-then-not-is_state
 returns-then-not-is_state c =
     let a = c.args in
-    let y = asked a.table.now a.i1.now a.i2.now a.state.now a.out.now c.ask.ensures c.in_ok-ask.was in
-    ill-gives a.table.now a.i1.now a.i2.now a.state.now a.out.now y c.is_state.ensures (c.if-not-is_state.true)
+    let y = asked a.lent.table.now a.lent.first.now a.lent.second.now a.state.now a.out.now c.ask.ensures.is c.in_ok-task.was in
+    let d = of_lent (has c.ask.ensures c.in_ok-task.was) (λ c' i j. c.is_state.result ≡ good_memory (program_of c') (i ∷ j ∷ []) a.state.now) c.is_state.ensures in
+    ill-gives a.lent.table.now a.lent.first.now a.lent.second.now a.state.now a.out.now y d (c.if-not-is_state.true)
 
 pub put_saved-n-requires : goal.put_saved-n-requires
 put_saved-n-requires c =
     let a = c.args in
-    let y = asked a.table.now a.i1.now a.i2.now a.state.now a.out.now c.ask.ensures c.in_ok-ask.was in
-    (saveable a.table.now a.i1.now a.i2.now a.state.now a.out.now y c.is_state.ensures (c.if-not-is_state.false), omega arith)
+    let y = asked a.lent.table.now a.lent.first.now a.lent.second.now a.state.now a.out.now c.ask.ensures.is c.in_ok-task.was in
+    let d = of_lent (has c.ask.ensures c.in_ok-task.was) (λ c' i j. c.is_state.result ≡ good_memory (program_of c') (i ∷ j ∷ []) a.state.now) c.is_state.ensures in
+    (saveable a.lent.table.now a.lent.first.now a.lent.second.now a.state.now a.out.now y d (c.if-not-is_state.false), omega arith)
 
 pub returns-then-out-n : goal.returns-then-out-n
 returns-then-out-n c =
     let a = c.args in
-    let y = asked a.table.now a.i1.now a.i2.now a.state.now a.out.now c.ask.ensures c.in_ok-ask.was in
-    narrow_gives a.table.now a.i1.now a.i2.now a.state.now a.out.now y c.is_state.ensures (c.if-not-is_state.false) c.put_saved-n.ensures c.if-out-n.true
+    let y = asked a.lent.table.now a.lent.first.now a.lent.second.now a.state.now a.out.now c.ask.ensures.is c.in_ok-task.was in
+    let d = of_lent (has c.ask.ensures c.in_ok-task.was) (λ c' i j. c.is_state.result ≡ good_memory (program_of c') (i ∷ j ∷ []) a.state.now) c.is_state.ensures in
+    narrow_gives a.lent.table.now a.lent.first.now a.lent.second.now a.state.now a.out.now y d (c.if-not-is_state.false) c.put_saved-n.ensures c.if-out-n.true
 
 pub slice_bounds-put-end : goal.slice_bounds-put-end
 slice_bounds-put-end c =
@@ -49,5 +56,6 @@ put-requires c =
 pub returns : goal.returns
 returns c =
     let a = c.args in
-    let y = asked a.table.now a.i1.now a.i2.now a.state.now a.out.now c.ask.ensures c.in_ok-ask.was in
-    fitting-gives a.table.now a.i1.now a.i2.now a.state.now a.out.now y c.is_state.ensures (c.if-not-is_state.false) c.put_saved-n.ensures c.if-out-n.false c.put.ensures
+    let y = asked a.lent.table.now a.lent.first.now a.lent.second.now a.state.now a.out.now c.ask.ensures.is c.in_ok-task.was in
+    let d = of_lent (has c.ask.ensures c.in_ok-task.was) (λ c' i j. c.is_state.result ≡ good_memory (program_of c') (i ∷ j ∷ []) a.state.now) c.is_state.ensures in
+    fitting-gives a.lent.table.now a.lent.first.now a.lent.second.now a.state.now a.out.now y d (c.if-not-is_state.false) c.put_saved-n.ensures c.if-out-n.false c.put.ensures
