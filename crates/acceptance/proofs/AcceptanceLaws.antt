@@ -1,6 +1,6 @@
 -- The program of an accepted text is well formed.
 use Rattle.std.specs.Prelude.{◌≡◌, refl, Bool, not, ◌&&◌, leb, nat_abs}
-use Rattle.std.proofs.Common.{sym, not-suc-le-zero, le_of_suc-le-suc, leb→le, drop-cons}
+use Rattle.std.proofs.Common.{sym, leb→le, drop-cons}
 use Rattle.std.proofs.Math.Path.{subst}
 use Rattle.std.proofs.Math.Bool.{true, false, cond}
 use Rattle.std.specs.Bool.{beq}
@@ -10,6 +10,8 @@ use Prim.Native.String.{String}
 use native.Mathlib.Omega.{arith}
 use Rattle.std.proofs.Math.Dec.{T, ltb, lt→ltb, le→leb}
 use Rattle.std.proofs.Math.ListN.{length, get_or, drop, length-map}
+use Rattle.std.proofs.lemmas.List.{get_or-map}
+use Rattle.std.proofs.Math.Facts.{T_not-not}
 use Rattle.layout.specs.Below.Lists.{total, all, any, filled, keep, each, bytes_equal}
 use Rattle.layout.specs.Below.ListLaws.{Passed, parts}
 use Rattle.layout.specs.Below.Limits as limit
@@ -34,7 +36,7 @@ use Rattle.macros.specs.Load.{loaded, load_in}
 use Rattle.macros.proofs.LoadLaws.{prepared-lined}
 use Rattle.macros.specs.Prepared.{Prepared, prepared}
 use Rattle.macros.specs.Prepared.Prepared.{unfit, ready}
-use Rattle.acceptance.proofs.RowLaws.{not-not, append-none, map-none, cond-none, keep-none, each_none, each_map, each_both, each_all, each-mapped, each-unmapped, each-unkeep, each-each, Answered, answered}
+use Rattle.acceptance.proofs.RowLaws.{append-none, map-none, cond-none, keep-none, each_none, each_map, each_both, each_all, each-mapped, each-unmapped, each-unkeep, each-each, Answered, answered}
 use Rattle.acceptance.proofs.ReaderLaws.{statements-sound}
 use Rattle.acceptance.proofs.FreshLaws.{different-left}
 use Rattle.acceptance.specs.Drafts.{SoundItem, SoundWritten, SoundChoice, SoundDraft, Declared}
@@ -54,7 +56,7 @@ used t fs q h =
     (each-each (λ i. T (q i)) (λ w. of_form fs w.args) t.code h)
 
 none-missing : (q : Item → Bool) (js : List Item) → places (keep (λ i. not (q i)) js) ≡ [] → Each (λ i. T (q i)) js
-none-missing q js h = each_map _ _ (λ i e. not-not (q i) e) js (keep-none (λ i. not (q i)) js (map-none (λ i. i.at) (keep (λ i. not (q i)) js) h))
+none-missing q js h = each_map _ _ (λ i e. T_not-not (q i) e) js (keep-none (λ i. not (q i)) js (map-none (λ i. i.at) (keep (λ i. not (q i)) js) h))
 
 abbrev is_label : Tables → Item → Bool
 is_label t i = any (λ l. bytes_equal i.chars l.name) t.labels
@@ -91,11 +93,6 @@ module _ (t : Tables) (labels-there : undeclared_labels t ≡ []) (named-there :
       each-each (λ i. T (is_label t i)) (λ c. keep (is word) c.list) t.switches
       (each_right (λ i. T (is_label t i)) (given_as "l" t) (each (λ c. keep (is word) c.list) t.switches) labels-used)
 
-get_d-mapped : {X Y : Type 0} (f : X → Y) (xs : List X) (k : ℕ) (d : X) (e : Y) → k < length xs → get_or (map f xs) k e ≡ f (get_or xs k d)
-get_d-mapped f [] k d e h = absurd (not-suc-le-zero h)
-get_d-mapped f (x ∷ xs) zero d e h = refl
-get_d-mapped f (x ∷ xs) (suc k) d e h = get_d-mapped f xs k d e (le_of_suc-le-suc h)
-
 module _ (ls : List ℕ) (t : Tables) where
   abbrev ends : Written → Bool
   ends w = is_end (operation w.op).flow
@@ -115,7 +112,7 @@ module _ (ls : List ℕ) (t : Tables) where
       (each_none (λ w. cond (ends w) [] (w.at ∷ [])) (w ∷ drop (suc k) t.code)
       (subst (λ (ws : List Written). each (λ w. cond (ends w) [] (w.at ∷ [])) ws ≡ []) (drop-cons t.code k no-written inside) h)).0 in
       subst (λ (j : ℕ). T (is_end (operation (get_or (map (instr_of ls t) t.code) (pred j) no_instr).op).flow)) (sym (length-map t.code (instr_of ls t)))
-      (subst (λ (i : Instr). T (is_end (operation i.op).flow)) (sym (get_d-mapped (instr_of ls t) t.code k no-written no_instr inside)) ended)
+      (subst (λ (i : Instr). T (is_end (operation i.op).flow)) (sym (get_or-map (instr_of ls t) t.code k no-written no_instr inside)) ended)
     where
       before : (m : ℕ) → 0 < m → pred m < m
       before zero h = h

@@ -6,6 +6,8 @@ use Rattle.std.proofs.Math.Bool.{true, false, cond}
 use Rattle.std.specs.Bool.{beq}
 use Rattle.std.proofs.Math.Dec.{T, lt→ltb, eqb_refl}
 use Rattle.std.proofs.lemmas.List.{length-map}
+use Rattle.lists.specs.SearchLaws.{ahead-below}
+use Rattle.lists.specs.BoolLaws.{T-first, T-second}
 use Rattle.layout.specs.Below.Lists.{all, any, ahead, filled, head_or, bytes_equal, among}
 use Rattle.layout.specs.Below.Quoted.{bytes}
 use Rattle.layout.specs.Below.ListLaws.{T-left, T-right, T-both, all_among, all_head, same_bytes-eq}
@@ -22,7 +24,6 @@ use Rattle.macros.proofs.Below.LetterLaws.{letter_of-code, every-letter}
 use Rattle.macros.specs.Below.SyntaxLoad.{arg_of, program_of, switch_place, label_place}
 use Rattle.macros.specs.Below.Statements.{entries_in}
 use Rattle.macros.specs.Below.Tables.{Choice, Tables, number_in}
-use Rattle.acceptance.proofs.RowLaws.{or_left, or_right, any-ahead}
 use Rattle.acceptance.specs.Drafts.{in_texts, in_numbers, SoundArgument, Declared}
 use Rattle.acceptance.proofs.ReadingLaws.{Other, by_form, Lettered, other-reads, text-reads, as-word, numeral-word}
 
@@ -151,13 +152,13 @@ one_of x xs h = go (eqb x 76) (eqb x 68) (eqb x 66) (eqb x 82) refl refl refl re
     d = among 82 (x ∷ xs)
 
     there : (k : ℕ) → eqb x k ≡ true → T (among k (x ∷ xs))
-    there k e = or_left (eqb k x) (among k xs) (subst (λ (y : ℕ). T (eqb k y)) (sym (eqb-true x k e)) (eqb_refl k))
+    there k e = T-first (eqb k x) (among k xs) (subst (λ (y : ℕ). T (eqb k y)) (sym (eqb-true x k e)) (eqb_refl k))
 
     go : (p q r s : Bool) → eqb x 76 ≡ p → eqb x 68 ≡ q → eqb x 66 ≡ r → eqb x 82 ≡ s → T (p || (q || (r || (s || false)))) → T (a || (b || (c || d)))
-    go true q r s e₁ e₂ e₃ e₄ h = or_left a (b || (c || d)) (there 76 e₁)
-    go false true r s e₁ e₂ e₃ e₄ h = or_right a (b || (c || d)) (or_left b (c || d) (there 68 e₂))
-    go false false true s e₁ e₂ e₃ e₄ h = or_right a (b || (c || d)) (or_right b (c || d) (or_left c d (there 66 e₃)))
-    go false false false true e₁ e₂ e₃ e₄ h = or_right a (b || (c || d)) (or_right b (c || d) (or_right c d (there 82 e₄)))
+    go true q r s e₁ e₂ e₃ e₄ h = T-first a (b || (c || d)) (there 76 e₁)
+    go false true r s e₁ e₂ e₃ e₄ h = T-second a (b || (c || d)) (T-first b (c || d) (there 68 e₂))
+    go false false true s e₁ e₂ e₃ e₄ h = T-second a (b || (c || d)) (T-second b (c || d) (T-first c d (there 66 e₃)))
+    go false false false true e₁ e₂ e₃ e₄ h = T-second a (b || (c || d)) (T-second b (c || d) (T-second c d (there 82 e₄)))
     go false false false false e₁ e₂ e₃ e₄ h = absurd h
 
 class-ranged : (w : List ℕ) → T (filled w && all (λ b. among b (bytes "LDBR")) w) → T (filled (classes w) && bytes_equal (classes w) (classes (classes w)))
@@ -236,7 +237,7 @@ module _ (ls : List ℕ) (t : Tables) (n : ℕ) (i : Item) where
   made-label : Declared t (record { item = i; form = 108 }) → right 108
   unfolding arg_of program_of
   made-label d =
-      (refl, lt→ltb (label_place t i.chars) (length t.labels) (any-ahead (λ l. bytes_equal i.chars l.name) t.labels (d.label_there tt)))
+      (refl, lt→ltb (label_place t i.chars) (length t.labels) (ahead-below (λ l. bytes_equal i.chars l.name) t.labels (d.label_there tt)))
 
   made-switch : (b : Bool) → T (different bytes_equal (by_names t.switches)) → Declared t (record { item = i; form = cond b 119 120 }) → right (cond b 119 120)
   unfolding arg_of program_of
@@ -251,7 +252,7 @@ module _ (ls : List ℕ) (t : Tables) (n : ℕ) (i : Item) where
           → T (ltb (switch_place t i.chars) (length (map (choice_switch (label_place t)) t.switches)))
       in_list k =
           lt→ltb (switch_place t i.chars) (length (map (choice_switch (label_place t)) t.switches))
-          (omega (arith, length-map t.switches (choice_switch (label_place t)), any-ahead (λ c. bytes_equal i.chars c.name) t.switches k))
+          (omega (arith, length-map t.switches (choice_switch (label_place t)), ahead-below (λ c. bytes_equal i.chars c.name) t.switches k))
 
       go : (b : Bool)
           → ((get_or (map (choice_switch (label_place t)) t.switches) (switch_place t i.chars) no_switch).goes_by_name ≡ b) × T (any (λ c. bytes_equal i.chars c.name) t.switches)

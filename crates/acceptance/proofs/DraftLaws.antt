@@ -8,6 +8,8 @@ use Prim.Native.Nat.{ℕ, ◌≤◌, ◌<◌}
 use native.Mathlib.Omega.{arith}
 use Rattle.std.proofs.Math.Dec.{T}
 use Rattle.std.proofs.Math.ListN.{length, length-append, length-map}
+use Rattle.lists.specs.AppendLaws.{any_left, any-right}
+use Rattle.lists.specs.BoolLaws.{T-first, T-second}
 use Rattle.layout.specs.Below.Lists.{any, filled, head_or, if_any, keep, each, bytes_equal}
 use Rattle.layout.specs.Below.ListLaws.{T-right, T-both, total-append, same_bytes-eq, same_bytes-refl}
 use Rattle.layout.specs.Below.Limits as limit
@@ -24,7 +26,7 @@ use Rattle.macros.specs.Below.Questions.{label_faults, repeated, count_faults, i
 use Rattle.macros.specs.Below.Statements.{Keyword, same_keyword, by_keyword, behind, labels_in, operator, operator_at, keyword_of, keyword_in, rest, list_faults}
 use Rattle.macros.specs.Below.Statements.Keyword.{none, unknown, SEKCJA, KONS, KONP, switch, instr}
 use Rattle.macros.specs.Below.Tables.{Written, Choice, Tables, Draft, blank, is_first, all_labels, contents, new_texts, new_numbers, number_in, with_instr, with_switch, draft_after}
-use Rattle.acceptance.proofs.RowLaws.{or_left, or_right, append-none, map-none, drop-none, keep-none, each_map, each_both, each_keep, each-mapped, each-unkeep, any_left, any-right, Answered}
+use Rattle.acceptance.proofs.RowLaws.{append-none, map-none, drop-none, keep-none, each_map, each_both, each_keep, each-mapped, each-unkeep, Answered}
 use Rattle.acceptance.proofs.FreshLaws.{none_each, each-none-passes, different-left, different-append}
 use Rattle.acceptance.proofs.ReadingLaws.{NoDash, arguments-fit, arguments-read, arguments-of, of-arguments, arguments-count}
 use Rattle.acceptance.specs.Drafts.{SoundItem, FineItem, in_texts, in_numbers, Kept, SoundArgument, SoundWritten, SoundChoice, SoundLabel, SoundTables, SoundName, own_names, SoundDraft}
@@ -381,7 +383,7 @@ unrepeated names (l ∷ ls) h =
 each-itself : (ws : List (List ℕ)) → Each (λ w. T (any (bytes_equal w) ws)) ws
 each-itself [] = tt
 each-itself (w ∷ ws) =
-    (or_left (bytes_equal w w) (any (bytes_equal w) ws) (same_bytes-refl w), each_map _ _ (λ v h. or_right (bytes_equal v w) (any (bytes_equal v) ws) h) ws (each-itself ws))
+    (T-first (bytes_equal w w) (any (bytes_equal w) ws) (same_bytes-refl w), each_map _ _ (λ v h. T-second (bytes_equal v w) (any (bytes_equal v) ws) h) ws (each-itself ws))
 
 unknown-names : (names own : List (List ℕ)) (m : List ℕ) → Each (λ w. T (any (bytes_equal w) names)) own → T (not (any (bytes_equal m) names))
     → T (not (any (bytes_equal m) own))

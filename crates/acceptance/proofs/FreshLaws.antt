@@ -4,6 +4,9 @@ use Rattle.std.proofs.Math.Path.{refl, ap, sym}
 use Rattle.std.proofs.Common.{◌∙◌, subst}
 use Rattle.std.proofs.Math.Bool.{true, false, cond}
 use mathlib.Core.List.{List, [], ◌∷◌, ◌++◌, map, map-append, append_assoc, append-nil}
+use Rattle.std.proofs.Math.Facts.{or_no}
+use Rattle.lists.specs.AppendLaws.{any_left, any-right}
+use Rattle.lists.specs.BoolLaws.{T-first}
 use Rattle.layout.specs.Below.Lists.{any}
 use Rattle.layout.specs.Below.ListLaws.{T-left, T-right, T-both}
 use Rattle.layout.specs.Bounds.{Each}
@@ -11,21 +14,17 @@ use Rattle.layout.proofs.CellLaws.{each_append, each_left}
 use Rattle.layout.specs.Below.WellFormed.{different}
 use Rattle.macros.specs.Below.Items.{Item}
 use Rattle.macros.specs.Below.Tables.{fresh}
-use Rattle.acceptance.proofs.RowLaws.{or_left, any_left, any-right, each_map}
-
--- none passes: each fails
-split-not : (a b : Bool) → T (not (a || b)) → T (not a) × T (not b)
-split-not true b h = absurd h
-split-not false b h = (tt, h)
+use Rattle.acceptance.proofs.RowLaws.{each_map}
 
 join-not : (a b : Bool) → T (not a) → T (not b) → T (not (a || b))
 join-not true b h k = absurd h
 join-not false b h k = k
 
+-- none passes: each fails
 module _ {X : Type 0} (q : X → Bool) where
   pub none_each : (xs : List X) → T (not (any q xs)) → Each (λ x. T (not (q x))) xs
   none_each [] h = tt
-  none_each (x ∷ xs) h = let k = split-not (q x) (any q xs) h in (k.0, none_each xs k.1)
+  none_each (x ∷ xs) h = let k = or_no (q x) (any q xs) h in (k.0, none_each xs k.1)
 
   pub each-none-passes : (xs : List X) → Each (λ x. T (not (q x))) xs → T (not (any q xs))
   each-none-passes [] h = tt
@@ -46,10 +45,10 @@ module _ {X : Type 0} (equal : X → X → Bool) (symmetric : (x y : X) → equa
       T-both (not (any (equal x) (xs ++ ys))) (different equal (xs ++ ys))
       (each-none-passes (equal x) (xs ++ ys)
       (each_append (λ y. T (not (equal x y))) xs ys (none_each (equal x) xs (T-left (not (any (equal x) xs)) (different equal xs) h)) (each_map _ _ other ys e)))
-      (different-append xs ys (T-right (not (any (equal x) xs)) (different equal xs) h) k (each_map _ _ (λ y n. (split-not (equal y x) (any (equal y) xs) n).1) ys e))
+      (different-append xs ys (T-right (not (any (equal x) xs)) (different equal xs) h) k (each_map _ _ (λ y n. (or_no (equal y x) (any (equal y) xs) n).1) ys e))
     where
       other : (y : X) → T (not (equal y x || any (equal y) xs)) → T (not (equal x y))
-      other y n = rw (symmetric x y) (split-not (equal y x) (any (equal y) xs) n).0
+      other y n = rw (symmetric x y) (or_no (equal y x) (any (equal y) xs) n).0
 
   module _ (reflexive : (x : X) → T (equal x x)) (value_of_lem : Item → X) where
     abbrev after : List X → List Item → List X
@@ -64,7 +63,7 @@ module _ {X : Type 0} (equal : X → X → Bool) (symmetric : (x y : X) → equa
 
     held : (b : Bool) (t : List X) (i : Item) → any (equal (value_of_lem i)) t ≡ b → T (any (equal (value_of_lem i)) (t ++ map value_of_lem (cond b [] (i ∷ []))))
     held true t i e = any_left (equal (value_of_lem i)) t [] (subst T (sym e) tt)
-    held false t i e = any-right (equal (value_of_lem i)) t (value_of_lem i ∷ []) (or_left (equal (value_of_lem i) (value_of_lem i)) false (reflexive (value_of_lem i)))
+    held false t i e = any-right (equal (value_of_lem i)) t (value_of_lem i ∷ []) (T-first (equal (value_of_lem i) (value_of_lem i)) false (reflexive (value_of_lem i)))
 
     pub fresh_holds : (t : List X) (js : List Item) → Each (λ i. T (any (equal (value_of_lem i)) (after t js))) js
     fresh_holds t [] = tt

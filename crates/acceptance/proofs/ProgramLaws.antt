@@ -8,6 +8,8 @@ use Prim.Native.Nat.{ℕ, suc, ◌≤◌}
 use Rattle.std.proofs.Math.Dec.{T, ltb}
 use Rattle.std.proofs.Math.ListN.{get_or}
 use Rattle.std.proofs.lemmas.List.{length-map}
+use Rattle.lists.specs.SearchLaws.{ahead-below}
+use Rattle.lists.specs.BoolLaws.{T-second}
 use Rattle.layout.specs.Below.Lists.{all, any, filled, if_any, keep, bytes_equal, among}
 use Rattle.layout.specs.Below.Quoted.{bytes}
 use Rattle.layout.specs.Below.ListLaws.{T-left, T-right, T-both}
@@ -22,7 +24,7 @@ use Rattle.macros.specs.Below.Items.Sort.{separator, word, colon, end, text, wro
 use Rattle.macros.specs.Below.SyntaxLoad.{label_place, arg_of, instr_of, program_of, Lined}
 use Rattle.macros.specs.Below.Statements.{entry_faults, list_faults, entries_in}
 use Rattle.macros.specs.Below.Tables.{Written, Choice, Tables}
-use Rattle.acceptance.proofs.RowLaws.{or_right, append-none, cond-none, each_map, each_both, each-unkeep, each-every, any-ahead, any-mapped, any-more}
+use Rattle.acceptance.proofs.RowLaws.{append-none, cond-none, each_map, each_both, each-unkeep, each-every, any-mapped, any-more}
 use Rattle.acceptance.specs.Reading.{fits}
 use Rattle.acceptance.specs.Drafts.{FineItem, in_texts, SoundArgument, SoundWritten, SoundChoice, SoundLabel, Declared}
 use Rattle.acceptance.proofs.ArgumentLaws.{by_names, argument-right}
@@ -192,7 +194,7 @@ module _ (ls : List ℕ) (t : Tables) (goes_by_name : Bool) where
       go true e f =
           let there : T (is text j) = subst T (sym e) tt in
           let w = j.chars in
-          or_right (not (filled w)) (goes_by_name && good_text w && in_texts t.texts w)
+          T-second (not (filled w)) (goes_by_name && good_text w && in_texts t.texts w)
           (T-both (goes_by_name && good_text w) (in_texts t.texts w)
           (T-both goes_by_name (good_text w) (T-left goes_by_name before (text-there goes_by_name before (if_any false (is text) js) j f there)) (k.0.text-good there)) (k.0.text-held there))
       go false e f = tt
@@ -212,7 +214,7 @@ module _ (ls : List ℕ) (t : Tables) (goes_by_name : Bool) where
       go true f r =
           T-both (good_entry (program_of ls t) goes_by_name (entry_of i js)) (all (good_entry (program_of ls t) goes_by_name) (entries_in (label_place t) js))
           (T-both (ltb (label_place t i.chars) (length t.labels)) _
-          (lt→ltb (label_place t i.chars) (length t.labels) (any-ahead (λ l. bytes_equal i.chars l.name) t.labels (f tt)))
+          (lt→ltb (label_place t i.chars) (length t.labels) (ahead-below (λ l. bytes_equal i.chars l.name) t.labels (f tt)))
           (entry-text-good (filled i.colon) js rest k.1)) r
       go false f r = r
 

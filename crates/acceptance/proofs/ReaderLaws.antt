@@ -6,6 +6,7 @@ use native.Mathlib.Omega.{arith}
 use Rattle.std.proofs.Math.Dec.{T, eqb}
 use Rattle.std.proofs.Math.ListN.{drop}
 use Rattle.std.proofs.Common.{length-drop}
+use Rattle.lists.specs.SearchLaws.{ahead-below}
 use Rattle.layout.specs.Below.Lists.{all, ahead, head_or, if_any, among}
 use Rattle.layout.specs.Below.Quoted.{bytes}
 use Rattle.layout.specs.Below.ListLaws.{T-left, T-right, T-both, all-at}
@@ -17,7 +18,6 @@ use Rattle.macros.specs.Below.Items.Sort.{separator, word, colon, end, text, wro
 use Rattle.macros.specs.Below.Items.Stage.{first-star, inside, last-slash}
 use Rattle.macros.specs.Below.Items.Mode.{outside, in_word, in_comment, in_text}
 use Rattle.acceptance.specs.Drafts.{SoundItem}
-use Rattle.acceptance.proofs.RowLaws.{any-ahead}
 
 module _ (n : ℕ) where
   abbrev SoundMode : Mode → Type 0
@@ -61,7 +61,7 @@ module _ (n : ℕ) where
   -- a star's pair and a byte that stands itself are known characters
   pair-known : (b : ℕ) → T (is_pair b) → T (known (pair_of b))
   unfolding known
-  pair-known b h = all-at (λ p. known p.1) pairs tt (ahead (λ p. eqb b p.0) pairs) (0, 0) (any-ahead (λ p. eqb b p.0) pairs h)
+  pair-known b h = all-at (λ p. known p.1) pairs tt (ahead (λ p. eqb b p.0) pairs) (0, 0) (ahead-below (λ p. eqb b p.0) pairs h)
 
   all_append : (cs ds : List ℕ) → T (all known cs) → T (all known ds) → T (all known (cs ++ ds))
   all_append [] ds h k = k

@@ -3,6 +3,8 @@ use Rattle.std.specs.Prelude.{◌≡◌, refl, Bool, true, false, cond, not, ◌
 use Rattle.std.proofs.Common.{ap, sym, ◌∙◌, subst, arith, T_not, eqb→eq, leb→le, eqb-true, le-ltb}
 use Rattle.std.proofs.Math.Dec.{eqb_refl}
 use Rattle.std.proofs.Math.Seq.{drop-nil}
+use lib.Ieee.Bits.{is_false}
+use Rattle.lists.specs.BoolLaws.{T-first, T-second}
 use Rattle.layout.specs.Below.Lists.{all, any, ahead, filled, head_or, keep, among}
 use Rattle.layout.specs.Below.Quoted.{bytes}
 use Rattle.layout.specs.Below.ListLaws.{T-left, T-right, T-both, all_among}
@@ -19,7 +21,7 @@ use Rattle.macros.specs.Below.ArgumentForms.{form_in, is_indexed, word_reads, re
 use Rattle.macros.specs.Below.Items.{Item, is}
 use Rattle.macros.specs.Below.Items.Sort.{word, text}
 use Rattle.acceptance.specs.Reading.{fits, apart, agree, agreed, may_end, right_number, right_forms}
-use Rattle.acceptance.proofs.RowLaws.{fails, or_left, or_right, or-not, any_found, any-more, any-unkeep, any-mapped, each_map, each_keep, each-kept, each-mapped, each_both}
+use Rattle.acceptance.proofs.RowLaws.{or-not, any_found, any-more, any-unkeep, any-mapped, each_map, each_keep, each-kept, each-mapped, each_both}
 
 pub forms-right : (op : Op) → T (right_forms op)
 forms-right op = subst (λ (o : Op). T (right_forms o)) (operator-back op) (below (λ n. right_forms (operator_of n)) 64 tt (operation op).number (operator-below op))
@@ -111,7 +113,7 @@ letter-form f h =
     record { no_t = differs 116 tt; no_n = differs 110 tt; no_c = differs 99 tt; no_l = differs 108 tt; no_w = differs 119 tt; no_x = differs 120 tt }
   where
     differs : (k : ℕ) → T (all (λ g. not (eqb g k)) (bytes "ABCDEINPQTYZ")) → eqb f k ≡ false
-    differs k t = fails (eqb f k) (all_among (λ g. not (eqb g k)) (bytes "ABCDEINPQTYZ") t f h)
+    differs k t = is_false (eqb f k) (all_among (λ g. not (eqb g k)) (bytes "ABCDEINPQTYZ") t f h)
 
 head-letter : (i : Item) (f : ℕ) → T (form_in "ABCDEINPQTYZ" f) → T (reads i f) → head_or 0 i.chars ≡ f
 head-letter i f h k =
@@ -147,7 +149,7 @@ NoDash args = Each (λ a. T (not (form_in "-" a.form))) args
 
 each-among : (ns : List ℕ) → Each (λ n. T (among n ns)) ns
 each-among [] = tt
-each-among (n ∷ ns) = (or_left (eqb n n) (among n ns) (eqb_refl n), each_map _ _ (λ m h. or_right (eqb m n) (among m ns) h) ns (each-among ns))
+each-among (n ∷ ns) = (T-first (eqb n n) (among n ns) (eqb_refl n), each_map _ _ (λ m h. T-second (eqb m n) (among m ns) h) ns (each-among ns))
 
 -- the form that an argument is given is in its place's list, and the argument reads so
 taken : (q : ℕ → Bool) (fs : List ℕ) → T (not (form_in "-" (head_or 45 (keep q fs)))) → T (q (head_or 45 (keep q fs))) × T (among (head_or 45 (keep q fs)) fs)
@@ -206,7 +208,7 @@ unfolding Fits-by read_by
 more-fits js i alts [] e g k d ih = absurd d.0
 more-fits [] i alts (a ∷ live) e g k d ih =
     let t = taken (reads i) (head_or [] a) d.0 in
-    or_left (among (argument_by i (a ∷ live)).form (head_or [] a) && all (among 45) (drop 1 a)) _
+    T-first (among (argument_by i (a ∷ live)).form (head_or [] a) && all (among 45) (drop 1 a)) _
     (T-both (among (argument_by i (a ∷ live)).form (head_or [] a)) (all (among 45) (drop 1 a)) t.1 e.0)
 more-fits (j ∷ js) i alts (a ∷ live) e g k d ih =
     let n = length js in
@@ -229,7 +231,7 @@ more-fits (j ∷ js) i alts (a ∷ live) e g k d ih =
 all_fit : (js : List Item) → Fits-by js
 unfolding Fits-by read_by accepting
 all_fit [] [] r d = absurd r.some
-all_fit [] (a ∷ alts) r d = or_left (all (among 45) a) _ r.ends.0
+all_fit [] (a ∷ alts) r d = T-first (all (among 45) a) _ r.ends.0
 all_fit (i ∷ js) alts r d =
     let q : List (List ℕ) → Bool = λ a. any (reads i) (head_or [] a) in
     let live = keep q alts in

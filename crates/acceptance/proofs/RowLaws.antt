@@ -1,33 +1,19 @@
 -- Rows without faults and what then holds of each element; searches that succeed; and what a yes to all questions says.
-use Rattle.std.specs.Prelude.{◌≡◌, refl, Bool, true, false, cond, not, ◌||◌, List, [], ◌∷◌, ◌++◌, map, ℕ, suc, ◌≤◌, ◌<◌, T, length, get_or, drop}
+use Rattle.std.specs.Prelude.{◌≡◌, refl, Bool, true, false, cond, not, ◌||◌, List, [], ◌∷◌, ◌++◌, map, ℕ, suc, ◌≤◌, T, length, get_or, drop}
 use Rattle.std.proofs.Common.{ap, sym, subst, arith, length-drop}
+use Rattle.lists.specs.BoolLaws.{T-first, T-second}
 use Rattle.layout.specs.Below.Lists.{all, any, ahead, keep, each}
 use Rattle.layout.specs.Below.ListLaws.{T-both}
 use Rattle.layout.specs.Bounds.{Each}
 use Rattle.layout.proofs.CellLaws.{each_left, each_right}
 use Rattle.macros.specs.Below.SyntaxVerdict.{Question, Verdict, decide, first_no}
+pub use Rattle.layout.specs.EachLaws.{each_map, each_keep}
 
 -- Tests
-
-pub or_left : (a b : Bool) → T a → T (a || b)
-or_left true b h = tt
-or_left false b h = absurd h
-
-pub or_right : (a b : Bool) → T b → T (a || b)
-or_right true b h = tt
-or_right false b h = h
 
 pub or-not : (a b : Bool) → T (a || b) → T (not a) → T b
 or-not true b h k = absurd k
 or-not false b h k = h
-
-pub not-not : (a : Bool) → T (not (not a)) → T a
-not-not true h = tt
-not-not false h = h
-
-pub fails : (a : Bool) → T (not a) → a ≡ false
-fails true h = absurd h
-fails false h = refl
 
 -- No element is left
 
@@ -61,10 +47,6 @@ module _ {X : Type 0} where
 
   -- Each element
 
-  pub each_map : (P Q : X → Type 0) → ((x : X) → P x → Q x) → (xs : List X) → Each P xs → Each Q xs
-  each_map P Q f [] h = tt
-  each_map P Q f (x ∷ xs) h = (f x h.0, each_map P Q f xs h.1)
-
   pub each_both : (P Q : X → Type 0) (xs : List X) → Each P xs → Each Q xs → Each (λ x. P x × Q x) xs
   each_both P Q [] h k = tt
   each_both P Q (x ∷ xs) h k = ((h.0, k.0), each_both P Q xs h.1 k.1)
@@ -72,14 +54,6 @@ module _ {X : Type 0} where
   pub each_all : (q : X → Bool) (xs : List X) → Each (λ x. T (q x)) xs → T (all q xs)
   each_all q [] h = tt
   each_all q (x ∷ xs) h = T-both (q x) (all q xs) h.0 (each_all q xs h.1)
-
-  pub each_keep : (P : X → Type 0) (q : X → Bool) (xs : List X) → Each P xs → Each P (keep q xs)
-  each_keep P q [] h = tt
-  each_keep P q (x ∷ xs) h = go (q x) (each_keep P q xs h.1)
-    where
-      go : (b : Bool) → Each P (keep q xs) → Each P (cond b (x ∷ keep q xs) (keep q xs))
-      go true k = (h.0, k)
-      go false k = k
 
   pub each-kept : (q : X → Bool) (xs : List X) → Each (λ x. T (q x)) (keep q xs)
   each-kept q [] = tt
@@ -115,26 +89,6 @@ module _ {X : Type 0} where
 
   -- Searches
 
-  pub any_left : (q : X → Bool) (xs ys : List X) → T (any q xs) → T (any q (xs ++ ys))
-  any_left q [] ys h = absurd h
-  any_left q (x ∷ xs) ys h = go (q x) h (any_left q xs ys)
-    where
-      go : (b : Bool) → T (b || any q xs) → (T (any q xs) → T (any q (xs ++ ys))) → T (b || any q (xs ++ ys))
-      go true h k = tt
-      go false h k = k h
-
-  pub any-right : (q : X → Bool) (xs ys : List X) → T (any q ys) → T (any q (xs ++ ys))
-  any-right q [] ys h = h
-  any-right q (x ∷ xs) ys h = or_right (q x) (any q (xs ++ ys)) (any-right q xs ys h)
-
-  pub any-ahead : (q : X → Bool) (xs : List X) → T (any q xs) → ahead q xs < length xs
-  any-ahead q [] h = absurd h
-  any-ahead q (x ∷ xs) h = go (q x) h (any-ahead q xs)
-    where
-      go : (b : Bool) → T (b || any q xs) → (T (any q xs) → ahead q xs < length xs) → elim b [ true ↦ 0 | false ↦ suc (ahead q xs) ] < suc (length xs)
-      go true h k = omega arith
-      go false h k = omega (arith, k h)
-
   pub any_found : (q : X → Bool) (xs : List X) (d : X) → T (any q xs) → T (q (get_or xs (ahead q xs) d))
   any_found q [] d h = absurd h
   any_found q (x ∷ xs) d h = go (q x) refl h (any_found q xs d)
@@ -158,8 +112,8 @@ module _ {X : Type 0} where
   any-more p q (x ∷ xs) e h = go (p x) h e.0 (any-more p q xs e.1)
     where
       go : (b : Bool) → T (b || any p xs) → (T b → T (q x)) → (T (any p xs) → T (any q xs)) → T (q x || any q xs)
-      go true h f k = or_left (q x) (any q xs) (f tt)
-      go false h f k = or_right (q x) (any q xs) (k h)
+      go true h f k = T-first (q x) (any q xs) (f tt)
+      go false h f k = T-second (q x) (any q xs) (k h)
 
   pub any-unkeep : (p q : X → Bool) (xs : List X) → T (any p (keep q xs)) → T (any p xs)
   any-unkeep p q [] h = h
@@ -171,7 +125,7 @@ module _ {X : Type 0} where
           more : (c : Bool) → T (c || any p (keep q xs)) → T (c || any p xs)
           more true h = tt
           more false h = k h
-      go false h k = or_right (p x) (any p xs) (k h)
+      go false h k = T-second (p x) (any p xs) (k h)
 
 -- Every question is answered yes
 abbrev pub Answered : List Question → Type 0

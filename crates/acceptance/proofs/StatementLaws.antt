@@ -1,8 +1,12 @@
 -- What a statement without faults brings: fine items, names, texts and numbers.
-use Rattle.std.specs.Prelude.{◌≡◌, refl, Bool, true, false, cond, not, ◌&&◌, ◌||◌, List, [], ◌∷◌, ◌++◌, map, ℕ, ◌+◌, ◌-◌, ◌≤◌, T, leb, ltb, length, ℤ, pos, negsuc, nat_abs}
+use Rattle.std.specs.Prelude.{◌≡◌, refl, Bool, true, false, cond, not, ◌&&◌, ◌||◌, List, [], ◌∷◌, ◌++◌, map, ℕ, ◌+◌, ◌-◌, ◌≤◌, T, leb, ltb, length, ℤ, nat_abs}
 use Rattle.std.proofs.Common.{sym, subst, arith, lt→ltb, le→leb, nltb→le, leb-false}
 use Rattle.std.proofs.lemmas.List.{length-map}
 use Rattle.std.specs.Int.Signed.{le_z}
+use Rattle.std.proofs.Math.Facts.{T_not-not}
+use lib.Ieee.Bits.{is_false}
+use Rattle.layout.proofs.Below.ValueLaws.{same_number-refl}
+use Rattle.lists.specs.BoolLaws.{same_test}
 use Rattle.layout.specs.Below.Lists.{all, any, filled, keep, bytes_equal}
 use Rattle.layout.specs.Below.ListLaws.{T-left, T-right, T-both, same_bytes-eq, same_bytes-refl}
 use Rattle.layout.specs.Below.Characters.{known}
@@ -18,7 +22,7 @@ use Rattle.macros.specs.Below.Questions.{first_faults, operator_faults, beyond}
 use Rattle.macros.specs.Below.Statements.{Keyword, same_keyword, keyword_of, is_operator, front, behind, labels_in, is_name, one_name}
 use Rattle.macros.specs.Below.Statements.Keyword.{unknown, SEKCJA}
 use Rattle.macros.specs.Below.Tables.{Tables, contents, new_texts, new_numbers, number_in}
-use Rattle.acceptance.proofs.RowLaws.{fails, not-not, append-none, map-none, drop-none, keep-none, each_map, each_both, each_keep, each-kept, each-unkeep, each-mapped}
+use Rattle.acceptance.proofs.RowLaws.{append-none, map-none, drop-none, keep-none, each_map, each_both, each_keep, each-kept, each-unkeep, each-mapped}
 use Rattle.acceptance.proofs.ArgumentLaws.{word-apart}
 use Rattle.acceptance.proofs.FreshLaws.{fresh_holds, fresh-different, fresh-from}
 use Rattle.acceptance.specs.Drafts.{SoundItem, FineItem, in_texts, in_numbers, SoundName}
@@ -39,7 +43,7 @@ fine-item n i h k l =
     }
   where
     good : (a b : Bool) → T (not (a && not b)) → T a → T b
-    good true b h t = not-not b h
+    good true b h t = T_not-not b h
     good false b h t = absurd t
 
 pub fine-items : (n : ℕ) (x : List Item) → Each (SoundItem n) x → places (keep (λ i. is text i && not (i.good && filled i.chars)) x) ≡ []
@@ -90,14 +94,14 @@ first-front (i ∷ js) h = go (filled i.colon) refl (same_keyword SEKCJA (keywor
         → cond (is_operator i) [] (i ∷ front js) ≡ []
     go true e b f h = absurd (let z : ◌≡◌ {A = ℕ} 0 1 = cc in omega arith)
     go false e false f h = absurd (let z : ◌≡◌ {A = ℕ} 0 1 = cc in omega arith)
-    go false e true f h = rw (fails (is colon i) (word-apart i (sekcja-word i (subst T (sym f) tt))).1, e) refl
+    go false e true f h = rw (is_false (is colon i) (word-apart i (sekcja-word i (subst T (sym f) tt))).1, e) refl
 
 pub front-names : (first english : Bool) (x : List Item) → cond first (first_faults x) [] ≡ [] → cond first [] (operator_faults english x) ≡ [] → Each (λ i. T (is_name i)) (front x)
 unfolding operator_faults
 front-names true english x h k = rw (first-front x h) tt
 front-names false english x h k =
     let q : Item → Bool = λ i. not (is_name i) in
-    each_map _ _ (λ i e. not-not (is_name i) e) (front x)
+    each_map _ _ (λ i e. T_not-not (is_name i) e) (front x)
     (keep-none q (front x) (map-none (λ i. i.at) (keep q (front x)) (append-none (places (keep q (front x))) _ k).0))
 
 pub label-names : (n : ℕ) (x : List Item) → Each (FineItem n) x → Each (λ i. T (is_name i)) (front x) → Each (SoundName n) (labels_in x)
@@ -107,27 +111,17 @@ label-names n x h k =
 
 -- Texts and numbers that are new
 
-same_tests : (a b : Bool) → (T a → T b) → (T b → T a) → a ≡ b
-same_tests true true f g = refl
-same_tests true false f g = absurd (f tt)
-same_tests false true f g = absurd (g tt)
-same_tests false false f g = refl
-
 pub same_bytes-sym : (v w : List ℕ) → bytes_equal v w ≡ bytes_equal w v
-same_bytes-sym v w = same_tests (bytes_equal v w) (bytes_equal w v) (turn v w) (turn w v)
+same_bytes-sym v w = same_test (bytes_equal v w) (bytes_equal w v) (turn v w) (turn w v)
   where
     turn : (v w : List ℕ) → T (bytes_equal v w) → T (bytes_equal w v)
     turn v w h = subst (λ (u : List ℕ). T (bytes_equal u v)) (same_bytes-eq v w h) (same_bytes-refl v)
 
 pub same_number-sym : (x y : ℤ) → same_number x y ≡ same_number y x
-same_number-sym x y = same_tests (same_number x y) (same_number y x) (turn x y) (turn y x)
+same_number-sym x y = same_test (same_number x y) (same_number y x) (turn x y) (turn y x)
   where
     turn : (x y : ℤ) → T (same_number x y) → T (same_number y x)
     turn x y h = T-both (le_z y x) (le_z x y) (T-right (le_z x y) (le_z y x) h) (T-left (le_z x y) (le_z y x) h)
-
-same_number-refl : (x : ℤ) → T (same_number x x)
-same_number-refl (pos a) = T-both (leb a a) (leb a a) (le→leb a a (omega arith)) (le→leb a a (omega arith))
-same_number-refl (negsuc a) = T-both (leb a a) (leb a a) (le→leb a a (omega arith)) (le→leb a a (omega arith))
 
 -- at most n in size, or else in the table
 small-or : (n m : ℕ) (b : Bool) → (T (ltb n m) → T b) → T (leb m n || b)

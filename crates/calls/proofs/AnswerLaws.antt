@@ -1,6 +1,6 @@
 -- Every answer is a listed number, and a count no greater than the budget; both are read back from the 64 bits.
-use Rattle.std.specs.Prelude.{◌≡◌, refl, ◌↔◌, Bool, true, false, not, List, ◌++◌, ℕ, ◌/◌, ◌%◌, ◌≤◌, ◌<◌, T, leb}
-use Rattle.std.proofs.Common.{ap, subst, arith, leb→le}
+use Rattle.std.specs.Prelude.{◌≡◌, refl, ◌↔◌, not, List, ◌++◌, ℕ, ◌/◌, ◌%◌, ◌≤◌, ◌<◌, T, leb}
+use Rattle.std.proofs.Common.{ap, subst, arith, leb→le, T_not}
 use Rattle.lists.specs.Lists.{all, among}
 use Rattle.lists.specs.ListLaws.{all_among}
 use Rattle.language.specs.Program.{Program}
@@ -36,11 +36,11 @@ run-number p ins budget n t (stopped k) (halted l e) =
 
 -- no refusal has the number of an accepted call
 not-both : (number : ℕ) → T (among number refusal_numbers) → T (among number accepted_numbers) → ⊥
-not-both number h = go (among number accepted_numbers) (all_among (λ n. not (among n accepted_numbers)) refusal_numbers tt number h)
-  where
-    go : (b : Bool) → T (not b) → T b → ⊥
-    go true h k = h
-    go false h k = k
+not-both number h = T_not (among number accepted_numbers) (all_among (λ n. not (among n accepted_numbers)) refusal_numbers tt number h)
+
+pub count-told : (a : Answer) (n : ℕ) → reply_count (run_reply a n) ≡ n
+count-told pause n = refl
+count-told (stopped number) n = refl
 
 run-count : (p : Program) (ins : Inputs) (budget n : ℕ) (t : State) (a : Answer) → Says (step p ins) budget n t a → reply_count (run_reply a n) ≤ budget
 run-count p ins budget n t pause (used_up e) = omega arith

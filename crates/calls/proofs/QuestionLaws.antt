@@ -2,6 +2,7 @@
 use Rattle.std.specs.Prelude.{◌≡◌, Bool, true, false, not, cond, ◌&&◌, ◌||◌, List, [], ◌∷◌, map, ℕ, T, eqb}
 use Rattle.std.proofs.Common.{arith}
 use Rattle.std.proofs.Math.Dec.{eqb_refl}
+use Rattle.lists.specs.BoolLaws.{T-first}
 use Rattle.lists.specs.Lists.{all, any, among}
 use Rattle.language.specs.Program.{Program}
 use Rattle.language.specs.Values.{State, Inputs}
@@ -20,10 +21,6 @@ none-no (q ∷ qs) e = go q.1 e (none-no qs)
 -- the first no is one of the questions, answered no
 abbrev pub no_at : ℕ → List Question → Bool
 no_at number qs = any (λ q. not q.1 && eqb number q.0) qs
-
-T-first : (a b : Bool) → T a → T (a || b)
-T-first true b h = tt
-T-first false b h = absurd h
 
 pub first-at : (number : ℕ) (qs : List Question) → FirstNo number qs → T (no_at number qs)
 first-at number [] h = let e = h.1 in absurd (let z : ◌≡◌ {A = ℕ} 0 1 = cc in omega arith)

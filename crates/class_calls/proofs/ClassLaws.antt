@@ -4,6 +4,7 @@ use Rattle.std.proofs.Math.Path.{ap}
 use Rattle.std.proofs.Common.{sym, ◌∙◌, subst, arith, le-leb}
 use Rattle.std.proofs.Math.ListN.{get_or}
 use Rattle.std.proofs.lemmas.List.{length-replicate}
+use Rattle.std.specs.Bool.{passes}
 use Rattle.language.specs.Limits as limit
 use Rattle.language.specs.Program.{Program}
 use Rattle.language.specs.Values.{State, Inputs}
@@ -25,9 +26,6 @@ use Rattle.calls.specs.Calls.Call.{start_on, run_on}
 use Rattle.calls.proofs.OrderLaws.{is-61, is-accepted}
 use Rattle.class_calls.specs.Class.{Pupil, inputs_of, refused_pupil, ran_pupil, told_of, empty_memory, separately, pupil}
 use lib.Ieee.Bits.{is_true, is_false}
-
-true_of : {b : Bool} → b ≡ true → T b
-true_of e = subst T (sym e) tt
 
 module _ (c w : List ℕ) (b : ℕ) (tc : T (good_table c)) where
   abbrev ins : Inputs
@@ -99,7 +97,7 @@ module _ (c w : List ℕ) (b : ℕ) (tc : T (good_table c)) where
           }) left
 
   empty-long : T (long_enough empty_memory)
-  empty-long = true_of (le-leb limit.state (length empty_memory) (rw (length-replicate {A = ℕ} limit.state 0) (omega arith)))
+  empty-long = passes _ (le-leb limit.state (length empty_memory) (rw (length-replicate {A = ℕ} limit.state 0) (omega arith)))
 
   -- the pupil by the machine alone
   pub pupil-refused : good_inputs ins ≡ false → pupil c w b ≡ refused_pupil 61
@@ -108,7 +106,7 @@ module _ (c w : List ℕ) (b : ℕ) (tc : T (good_table c)) where
 
   pub pupil-accepted : good_inputs ins ≡ true → pupil c w b ≡ pupil_ran
   unfolding pupil
-  pupil-accepted e = separately-ran (true_of e) empty_memory empty-long
+  pupil-accepted e = separately-ran (passes _ e) empty_memory empty-long
 
   -- "the answer, count, Q1 and its length that a separate start and run would give": on whatever memory these are made
   pub alone : (m : List ℕ) → T (long_enough m)
@@ -116,7 +114,7 @@ module _ (c w : List ℕ) (b : ℕ) (tc : T (good_table c)) where
   alone m long = go (good_inputs ins) refl
     where
       go : (x : Bool) → good_inputs ins ≡ x → pupil c w b ≡ separately c w b m
-      go true e = pupil-accepted e ∙ sym (separately-ran (true_of e) m long)
+      go true e = pupil-accepted e ∙ sym (separately-ran (passes _ e) m long)
       go false e = pupil-refused e ∙ sym (separately-61 m e)
 
   -- "A refused input has count 0, an empty Q1"
@@ -129,5 +127,5 @@ module _ (c w : List ℕ) (b : ℕ) (tc : T (good_table c)) where
     where
       go : (x : Bool) → good_inputs ins ≡ x → length (pupil c w b).q1 ≤ limit.output
       go true e = subst (λ (y : Pupil). length y.q1 ≤ limit.output) (sym (pupil-accepted e))
-          (each_at (λ w. length w ≤ limit.output) [] (omega arith) pupil_run.state.store.outputs (pupil-fine (true_of e)).outputs_ok 0)
+          (each_at (λ w. length w ≤ limit.output) [] (omega arith) pupil_run.state.store.outputs (pupil-fine (passes _ e)).outputs_ok 0)
       go false e = subst (λ (y : Pupil). length y.q1 ≤ limit.output) (sym (pupil-refused e)) (omega arith)

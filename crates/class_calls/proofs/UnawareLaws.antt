@@ -2,6 +2,7 @@
 use Rattle.std.specs.Prelude.{◌≡◌, refl, Bool, true, false, List, [], ◌∷◌, ◌++◌, ℕ, zero, suc, ◌+◌, ◌*◌, ◌≤◌, ◌<◌, T, length, get_or, take, drop}
 use Rattle.std.proofs.Common.{ap, sym, ◌∙◌, subst, append_assoc, not-suc-le-zero, le_of_suc-le-suc, arith, length-append, length-drop, take_at, length-take-le}
 use Rattle.std.proofs.Math.Seq.{drop-append-add}
+use Rattle.layout.proofs.StringLaws.{length-cut-by}
 use Rattle.lists.specs.Lists.{each, if_any}
 use Rattle.language.specs.Limits as limit
 use Rattle.machine.specs.Steps.{refusals}
@@ -51,11 +52,6 @@ unfolding pupils
 length-pupils c [] bs h = refl
 length-pupils c (w ∷ ws) [] h = absurd (omega (arith, h))
 length-pupils c (w ∷ ws) (b ∷ bs) h = ap suc (length-pupils c ws bs (omega (arith, h)))
-
-pub length_cut : (ns l : List ℕ) → length (cut_by ns l) ≡ length ns
-unfolding cut_by
-length_cut [] l = refl
-length_cut (n ∷ ns) l = ap suc (length_cut ns (drop n l))
 
 -- ---- what is written of the pupil at an index
 
@@ -120,7 +116,7 @@ module _ (c : List ℕ) (x : Lent) (ps : List Pupil) (t : Taken c x ps) where
   room =
       let f = fits-facts x t.fits in
       let n : length ps ≡ length x.lengths =
-      ap length t.are ∙ length-pupils c (inputs_in x) x.budgets (f.as_many ∙ sym (length_cut x.lengths x.data_in)) ∙ length_cut x.lengths x.data_in in
+      ap length t.are ∙ length-pupils c (inputs_in x) x.budgets (f.as_many ∙ sym (length-cut-by x.lengths x.data_in)) ∙ length-cut-by x.lengths x.data_in in
       omega (arith, n, f.bytes)
 
 -- two calls with the same table, in which a pupil of the one and a pupil of the other have the same input and the same budget:

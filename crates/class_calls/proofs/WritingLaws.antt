@@ -1,12 +1,11 @@
 -- What is written pupil by pupil.
-use Rattle.std.specs.Prelude.{◌≡◌, refl, List, [], ◌∷◌, ◌++◌, ℕ, zero, suc, ◌+◌, ◌*◌, ◌≤◌, ◌<◌, length, get_or, take, drop}
-use Rattle.std.proofs.Common.{ap, sym, ◌∙◌, append_assoc, zero-add, not-suc-le-zero, le_of_suc-le-suc, arith, length-append, length-drop, take-append-drop, take_at, drop-drop, take-suc, length-take-le}
+use Rattle.std.specs.Prelude.{◌≡◌, refl, List, [], ◌∷◌, ◌++◌, ℕ, suc, ◌+◌, ◌*◌, ◌≤◌, ◌<◌, length, get_or, take, drop}
+use Rattle.std.proofs.Common.{ap, sym, ◌∙◌, append_assoc, zero-add, arith, length-append, length-drop, take-append-drop, take_at, drop-drop, take-suc, length-take-le}
 use Rattle.std.proofs.lemmas.List.{drop-append-le}
 use Rattle.std.proofs.Math.Seq.{drop-append-add, take-append-add}
 use Rattle.lists.specs.Lists.{each}
 use Rattle.lists.specs.ListLaws.{total-append, total-split}
 use Rattle.language.specs.Limits as limit
-use Rattle.layout.specs.Strings.{cut_by}
 use Rattle.cells.specs.Cells.{pasted}
 use Rattle.class_calls.specs.Class.{Pupil, sum, result_cells, results_of, outputs_of}
 use Rattle.class_calls.proofs.UnawareLaws.{length_part}
@@ -19,14 +18,6 @@ sum-next ns k h =
 
 pub sum-within : (ns : List ℕ) (k : ℕ) → sum (take k ns) ≤ sum ns
 sum-within ns k = omega (arith, total-split (λ (n : ℕ). n) k ns)
-
--- the input at an index lies behind those before it
-pub cut_at : (ns l : List ℕ) (k : ℕ) → k < length ns → get_or (cut_by ns l) k [] ≡ take (get_or ns k 0) (drop (sum (take k ns)) l)
-unfolding cut_by
-cut_at [] l k h = absurd (not-suc-le-zero h)
-cut_at (n ∷ ns) l zero h = refl
-cut_at (n ∷ ns) l (suc k) h =
-    cut_at ns (drop n l) k (le_of_suc-le-suc h) ∙ ap (take (get_or ns k 0)) (drop-drop (sum (take k ns)) n l)
 
 -- ---- the results
 

@@ -5,6 +5,7 @@ use Rattle.std.proofs.Common.{◌∙◌, arith}
 use Rattle.std.proofs.Math.Bool.{cond}
 use mathlib.Core.List.{List, [], ◌∷◌, ◌++◌, map, map-map}
 use Rattle.std.proofs.Math.ListN.{get_or}
+use Rattle.lists.specs.SearchLaws.{ahead-map}
 use Rattle.language.specs.Program.{Arg, classes, Switch, Program}
 use Rattle.language.specs.Values.{amount, value_of}
 use Rattle.lists.specs.Lists.{filled, head_or, bytes_equal}
@@ -20,7 +21,7 @@ use Rattle.syntax.specs.Verdict.{Verdict, decide, first_no}
 use Rattle.syntax.specs.Verdict.Verdict.{yes}
 use Rattle.macros.proofs.AcceptedLaws.{none_both}
 use Rattle.macros.proofs.LoadLaws.{passed-verdict}
-use Rattle.editions.proofs.MapLaws.{map-ahead, map_same}
+use Rattle.editions.proofs.MapLaws.{map_same}
 use Rattle.editions.specs.Moving.{moved, moved_argument, moved_written, moved_choice, moved_tables, Passes, final, instr_by, program_by}
 use Rattle.editions.proofs.MovingLaws.{moved-entries}
 
@@ -105,7 +106,7 @@ module _ (f : ℕ → ℕ) (t : Tables) where
       (cond (form_in "l" a.form) (Arg.label (label_place t w))
       (cond (form_in "wx" a.form) (Arg.switch n)
       (Arg.letter (letter_of (head_or 0 w)) (amount 0 (drop 1 w))))))))
-      (map-ahead (moved_choice f) (λ c. bytes_equal w c.name) t.switches)
+      (ahead-map (λ c. bytes_equal w c.name) (moved_choice f) t.switches)
 
   moved-instr_by : (i : Written) → instr_by (λ n. n) (moved_tables f t) (moved_written f i) ≡ instr_by f t i
   unfolding instr_by

@@ -1,10 +1,12 @@
 -- What the converter answers, question by question: for proofs of code. Its numbers, and the count of bytes.
 use Rattle.std.specs.Prelude.{◌≡◌, Bool, cond, not, ◌&&◌, List, [], ◌∷◌, ℕ, ◌≤◌, ◌<◌, T, eqb, leb, length}
-use Rattle.std.proofs.Math.Path.{refl}
+use Rattle.std.proofs.Math.Path.{refl, sym}
 use Rattle.std.proofs.Math.Bool.{true, false}
 use native.Mathlib.Omega.{arith}
 use Rattle.std.proofs.Common.{leb→le}
 use borrow.Author.Tests.{le-leb, lt-leb}
+use lib.Ieee.Bits.{is_false}
+use Rattle.std.specs.Bool.{passes}
 use Rattle.language.specs.Limits as limit
 use Rattle.lists.specs.Lists.{among}
 use Rattle.lists.specs.ListLaws.{all_among}
@@ -12,7 +14,6 @@ use Rattle.syntax.specs.Load.{Loaded}
 use Rattle.syntax.specs.Load.Loaded.{refused, accepted}
 use Rattle.macros.specs.Load.{load_of}
 use Rattle.macros.specs.Marks.{has_macros}
-use Rattle.macros.proofs.TileLaws.{truth}
 use Rattle.calls.specs.Calls.{load_number}
 use Rattle.calls.specs.Filling.{Filling, filling_number, filling_count}
 use Rattle.calls.specs.Filling.Filling.{kept, fills}
@@ -23,12 +24,8 @@ use Rattle.editions.specs.Convert.{respelled, loads, convert_of}
 pub loads-by : (s : List ℕ) → loads (load_of s) ≡ eqb (load_number (load_of s)) 80
 loads-by s = go (load_of s) (load-within limit.table s)
   where
-    other : (b : Bool) → T (not b) → false ≡ b
-    other true h = absurd h
-    other false h = refl
-
     go : (l : Loaded) → LoadListed l → loads l ≡ eqb (load_number l) 80
-    go (refused number line) h = other (eqb number 80) (all_among (λ k. not (eqb k 80)) load_refusals tt number h.0)
+    go (refused number line) h = sym (is_false (eqb number 80) (all_among (λ k. not (eqb k 80)) load_refusals tt number h.0))
     go (accepted p) h = refl
 
 module _ (n : ℕ) (s : List ℕ) where
@@ -89,8 +86,8 @@ module _ (n : ℕ) (s : List ℕ) where
       go true false true true e f =
           record {
             number_listed = tt;
-            count_fits = leb→le (length (respelled s)) n (truth _ e);
-            count_short = leb→le (length (respelled s)) limit.text (truth _ f);
+            count_fits = leb→le (length (respelled s)) n (passes _ e);
+            count_short = leb→le (length (respelled s)) limit.text (passes _ f);
           }
       go true false true false e f = no-67
       go true false false short e f = no-67

@@ -6,17 +6,18 @@ use Rattle.std.proofs.Common.{◌∙◌, true≢false}
 use Rattle.std.proofs.Math.Bool.{true, false, cond, not}
 use Rattle.std.proofs.lemmas.Bool.{false≢true}
 use mathlib.Core.List.{List, [], ◌∷◌, ◌++◌, append_assoc, append-nil}
+use lib.Ieee.Bits.{is_true}
+use Rattle.std.specs.Bool.{passes}
 use Rattle.lists.specs.Lists.{filled}
 use Rattle.lists.specs.ListLaws.{T-left, T-right, T-both}
 use Rattle.syntax.specs.Items.{Sort, sort_of, same_sort, ends_text, takes_next, Stage, opens, closes}
 use Rattle.syntax.specs.Items.Sort.{separator, word, colon, end, text, wrong}
 use Rattle.syntax.specs.Items.Stage.{first-star, inside, last-slash}
-use Rattle.macros.proofs.TileLaws.{truth}
 use Rattle.editions.specs.Convert.{respell}
 use Rattle.editions.proofs.PairLaws.{spelled}
 use Rattle.editions.specs.Rewriting.{colon_next, Way, is_word, way_begins, way_after, awaits, awaits_after, word_written, written, written_last, rewritten}
 use Rattle.editions.specs.Rewriting.Way.{out, spelling, note, quote}
-use Rattle.editions.proofs.RewritingLaws.{holds, word-sort, longer-spelled, longer-filled, written-spelled, written-filled, Ends, note-first, opens_kept, colon-kept}
+use Rattle.editions.proofs.RewritingLaws.{word-sort, longer-spelled, longer-filled, written-spelled, written-filled, Ends, note-first, opens_kept, colon-kept}
 
 -- after a byte that is met outside and begins no word, no word has begun
 abbrev held : Way → List ℕ
@@ -51,7 +52,7 @@ module _ (turn : List ℕ → List ℕ) where
       rw (e, append-nil w)
       (append_assoc (word_written turn p w (c ∷ s)) (c ∷ []) (rewritten turn (awaits (p && colon_next (c ∷ s)) (sort_of c) c (get_or s 0 0)) (way_begins (sort_of c) c (get_or s 0 0)) s))
   spelling-rewrites p w (b ∷ v) s h e =
-      let t : is_word b ≡ true = holds (is_word b) (T-left (is_word b) (spelled v) h) in
+      let t : is_word b ≡ true = is_true (is_word b) (T-left (is_word b) (spelled v) h) in
       rw t
       (spelling-rewrites p (w ++ (b ∷ [])) v s (T-right (is_word b) (spelled v) h) e
       ∙ ap (λ u. word_written turn p u s ++ rewritten turn (p && colon_next s) out s) (append_assoc w (b ∷ []) v))
@@ -61,7 +62,7 @@ module _ (turn : List ℕ → List ℕ) where
   unfolding rewritten written awaits_after way_after awaits way_begins
   word-rewrites p [] s h k e = absurd k
   word-rewrites p (b ∷ v) s h k e =
-      let t : is_word b ≡ true = holds (is_word b) (T-left (is_word b) (spelled v) h) in
+      let t : is_word b ≡ true = is_true (is_word b) (T-left (is_word b) (spelled v) h) in
       rw (t, word-sort b t) (spelling-rewrites p (b ∷ []) v s (T-right (is_word b) (spelled v) h) e)
 
   -- a pass that leaves every word leaves the text
@@ -179,7 +180,7 @@ module _ (turn : List ℕ → List ℕ) where
         → rewritten turn p out (cond t [] (b ∷ []) ++ rewritten respell (awaits p (sort_of b) b (get_or r 0 0)) (way_begins (sort_of b) b (get_or r 0 0)) r)
         ≡ cond t [] (b ∷ []) ++ rewritten both (awaits p (sort_of b) b (get_or r 0 0)) (way_begins (sort_of b) b (get_or r 0 0)) r
     unfolding awaits way_begins rewritten written awaits_after way_after
-    out_step p true e = rw (word-sort b e) (q.spelt p (b ∷ []) (T-both (is_word b) true (truth (is_word b) e) tt) tt)
+    out_step p true e = rw (word-sort b e) (q.spelt p (b ∷ []) (T-both (is_word b) true (passes (is_word b) e) tt) tt)
     out_step p false e = rw e (ap (λ u. b ∷ u) (step (sort_of b) p e))
 
     spelt-step : (p : Bool) (w : List ℕ) → T (spelled w) → T (filled w) → (t : Bool) → is_word b ≡ t

@@ -1,6 +1,7 @@
 -- Words are read no earlier than where the reader stands: the operators of the unread rest of a text stand in that rest.
 use Rattle.std.specs.Prelude.{◌≡◌, refl, Bool, true, false, cond, not, ◌&&◌, ◌||◌, List, [], ◌∷◌, ◌++◌, ℕ, ◌+◌, ◌≤◌, T, eqb, leb, get_or, take, drop}
 use Rattle.std.proofs.Common.{subst, arith, leb→le, le→leb}
+use Rattle.lists.specs.AppendLaws.{all_append}
 use Rattle.lists.specs.Lists.{all, if_any}
 use Rattle.lists.specs.ListLaws.{T-left, T-right, T-both}
 use Rattle.syntax.specs.Items.{Sort, sort_of, same_sort, Item, is, places, a_word, a_text, a_mark, ends_text, takes_next, char_of, allows, Mode, opens, begins, itself, mode_after, items_at, left_over, read, attach, named}
@@ -8,7 +9,6 @@ use Rattle.syntax.specs.Items.Sort.{separator, word, colon, end, text, wrong}
 use Rattle.syntax.specs.Items.Stage.{first-star, inside, last-slash}
 use Rattle.syntax.specs.Items.Mode.{outside, in_word, in_comment, in_text}
 use Rattle.syntax.specs.Statements.{is_operator}
-use Rattle.macros.proofs.FullLaws.{all-joined}
 use Rattle.editions.specs.Rewriting.{operators_in}
 
 -- Words stand no earlier than where the reader is
@@ -96,7 +96,7 @@ late-read : (q : ℕ) (m : Mode) (n : ℕ) (r : List ℕ) → Since q m → T (l
 unfolding read
 late-read q m n [] s h = late-left q m s
 late-read q m n (b ∷ r) s h =
-    all-joined (late q) (items_at m n b (get_or r 0 0)) (read (mode_after m n b (get_or r 0 0)) (n + 1) r) (late-items q m n b (get_or r 0 0) s)
+    all_append (late q) (items_at m n b (get_or r 0 0)) (read (mode_after m n b (get_or r 0 0)) (n + 1) r) (late-items q m n b (get_or r 0 0) s)
     (late-read q (mode_after m n b (get_or r 0 0)) (n + 1) r (since-after q m n b (get_or r 0 0) s h) (further q n h))
 
 late-attach : (q : ℕ) (i : Item) (js : List Item) → T (late q i) → T (all (late q) js) → T (all (late q) (attach i js))

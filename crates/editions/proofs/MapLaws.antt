@@ -1,23 +1,13 @@
 -- Lists of which every element is changed by a function: what is taken, kept and found of them.
-use Rattle.std.specs.Prelude.{◌≡◌, refl, Bool, true, false, cond, ◌||◌, List, [], ◌∷◌, ◌++◌, map, ℕ, zero, suc, take, drop}
+use Rattle.std.specs.Prelude.{◌≡◌, refl, Bool, true, false, cond, ◌||◌, List, [], ◌∷◌, ◌++◌, map}
 use Rattle.std.proofs.Common.{ap, sym, ◌∙◌}
 use Rattle.std.proofs.lemmas.List.{map-append}
-use Rattle.lists.specs.Lists.{any, ahead, filled, head_or, if_any, keep, each}
+use Rattle.lists.specs.Lists.{any, filled, head_or, if_any, keep, each}
 
 module _ {X Y : Type 0} (g : X → Y) where
   pub map-cond : (b : Bool) (x y : List X) → map g (cond b x y) ≡ cond b (map g x) (map g y)
   map-cond true x y = refl
   map-cond false x y = refl
-
-  pub map-drop : (k : ℕ) (xs : List X) → drop k (map g xs) ≡ map g (drop k xs)
-  map-drop zero xs = refl
-  map-drop (suc k) [] = refl
-  map-drop (suc k) (x ∷ xs) = map-drop k xs
-
-  pub map-take : (k : ℕ) (xs : List X) → take k (map g xs) ≡ map g (take k xs)
-  map-take zero xs = refl
-  map-take (suc k) [] = refl
-  map-take (suc k) (x ∷ xs) = ap (λ zs. g x ∷ zs) (map-take k xs)
 
   pub map-filled : (xs : List X) → filled (map g xs) ≡ filled xs
   map-filled [] = refl
@@ -39,10 +29,6 @@ module _ {X Y : Type 0} (g : X → Y) where
   map-head_or z [] = refl
   map-head_or z (x ∷ xs) = refl
 
-  pub map_each : {Z : Type 0} (h : Y → List Z) (xs : List X) → each h (map g xs) ≡ each (λ x. h (g x)) xs
-  map_each h [] = refl
-  map_each h (x ∷ xs) = ap (λ zs. h (g x) ++ zs) (map_each h xs)
-
   pub map-of-each : {W : Type 0} (h : W → List X) (ws : List W) → map g (each h ws) ≡ each (λ w. map g (h w)) ws
   map-of-each h [] = refl
   map-of-each h (w ∷ ws) = map-append g (h w) (each h ws) ∙ ap (λ zs. map g (h w) ++ zs) (map-of-each h ws)
@@ -51,14 +37,6 @@ pub each_same : {X Y : Type 0} (h k : X → List Y) → ((x : X) → h x ≡ k x
 each_same h k e [] = refl
 each_same h k e (x ∷ xs) = let a = e x in let b = each_same h k e xs in cc
 
-pub keep_same : {X : Type 0} (p q : X → Bool) → ((x : X) → p x ≡ q x) → (xs : List X) → keep p xs ≡ keep q xs
-keep_same p q e [] = refl
-keep_same p q e (x ∷ xs) = let a = e x in let b = keep_same p q e xs in cc
-
 pub map_same : {X Y : Type 0} (h k : X → Y) → ((x : X) → h x ≡ k x) → (xs : List X) → map h xs ≡ map k xs
 map_same h k e [] = refl
 map_same h k e (x ∷ xs) = let a = e x in let b = map_same h k e xs in cc
-
-pub map-ahead : {X Y : Type 0} (g : X → Y) (p : Y → Bool) (xs : List X) → ahead p (map g xs) ≡ ahead (λ x. p (g x)) xs
-map-ahead g p [] = refl
-map-ahead g p (x ∷ xs) = ap (λ n. elim (p (g x)) [ true ↦ 0 | false ↦ suc n ]) (map-ahead g p xs)

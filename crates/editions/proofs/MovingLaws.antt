@@ -7,6 +7,9 @@ use mathlib.Core.List.{List, [], ◌∷◌, ◌++◌, map, map-append, map-map}
 use Rattle.std.proofs.Math.Dec.{ltb}
 use Rattle.std.proofs.Math.ListN.{length, length-map}
 use Prim.Native.String.{String}
+use Rattle.std.proofs.lemmas.List.{drop-map, take-map}
+use Rattle.std.proofs.lemmas.List.Elements.{filter_agree}
+use Rattle.std.proofs.lemmas.List.Folds.{flat_map-map}
 use Rattle.language.specs.Limits as limit
 use Rattle.language.specs.Instructions.{operation, is_end}
 use Rattle.language.specs.Program.{Op, Label, identifier}
@@ -23,7 +26,7 @@ use Rattle.syntax.specs.Questions.{first_faults, operator_faults, label_faults, 
 use Rattle.syntax.specs.Ending.{end_faults, given_as, used_labels, undeclared_labels, undeclared_switches, last_questions}
 use Rattle.syntax.specs.Verdict.{Question, ask, decide, first_no}
 use Rattle.syntax.specs.Verdict.Verdict.{yes}
-use Rattle.editions.proofs.MapLaws.{map-cond, map-drop, map-take, map-filled, map-keep, map-any, map-if_any, map_each, map-of-each, each_same, keep_same}
+use Rattle.editions.proofs.MapLaws.{map-cond, map-filled, map-keep, map-any, map-if_any, map-of-each, each_same}
 use Rattle.editions.specs.Moving.{moved, moved_argument, moved_written, moved_choice, moved_tables, moved_closing, moved_draft, moved_question, Passes, final}
 
 -- an answer by keyword, through a function
@@ -71,10 +74,10 @@ module _ (f : ℕ → ℕ) where
   moved-labels x = ap (keep (is word)) (moved_front x) ∙ map-keep (moved f) (is word) (front x)
 
   pub moved-operator : (x : List Item) → operator (map (moved f) x) ≡ map (moved f) (operator x)
-  moved-operator x = ap (take 1) (moved-behind x) ∙ map-take (moved f) 1 (behind x)
+  moved-operator x = ap (take 1) (moved-behind x) ∙ take-map (moved f) 1 (behind x)
 
   pub moved-rest : (x : List Item) → rest (map (moved f) x) ≡ map (moved f) (rest x)
-  moved-rest x = ap (drop 1) (moved-behind x) ∙ map-drop (moved f) 1 (behind x)
+  moved-rest x = ap (drop 1) (moved-behind x) ∙ drop-map (moved f) 1 (behind x)
 
   pub moved-keyword : (x : List Item) → keyword_in (map (moved f) x) ≡ keyword_in x
   unfolding keyword_in keyword_of
@@ -186,7 +189,7 @@ module _ (f : ℕ → ℕ) where
   moved-operator-places x = ap places (moved-operator x) ∙ moved-places (operator x)
 
   moved-drop-places : (k : ℕ) (xs : List Item) → places (drop k (map (moved f) xs)) ≡ map f (places (drop k xs))
-  moved-drop-places k xs = ap places (map-drop (moved f) k xs) ∙ moved-places (drop k xs)
+  moved-drop-places k xs = ap places (drop-map (moved f) k xs) ∙ moved-places (drop k xs)
 
   moved-label_faults : (ls x : List Item) → label_faults (map (moved f) ls) (map (moved f) x) ≡ map f (label_faults ls x)
   unfolding label_faults
@@ -219,7 +222,7 @@ module _ (f : ℕ → ℕ) where
 
   moved-colons : (js : List Item) → each (λ i. cond (is colon i) (i.at ∷ []) i.colon) (map (moved f) js) ≡ map f (each (λ i. cond (is colon i) (i.at ∷ []) i.colon) js)
   moved-colons js =
-      map_each (moved f) (λ i. cond (is colon i) (i.at ∷ []) i.colon) js
+      flat_map-map (λ i. cond (is colon i) (i.at ∷ []) i.colon) (moved f) js
       ∙ each_same (λ i. cond (is colon i) (f i.at ∷ []) (map f i.colon)) (λ i. map f (cond (is colon i) (i.at ∷ []) i.colon))
       (λ i. sym (map-cond f (is colon i) (i.at ∷ []) i.colon)) js
       ∙ sym (map-of-each f (λ (i : Item). cond (is colon i) (i.at ∷ []) i.colon) js)
@@ -273,7 +276,7 @@ module _ (f : ℕ → ℕ) where
 
   past : (most held held' : ℕ) (xs ys : List Item) → held' ≡ held → ys ≡ map (moved f) xs → Row (beyond most held' (places ys)) (beyond most held (places xs))
   past most held held' xs ys e p =
-      record { row = ap (λ n. beyond most n (places ys)) e ∙ ap (λ zs. beyond most held (places zs)) p ∙ ap (beyond most held) (moved-places xs) ∙ map-drop f (most - held) (places xs) }
+      record { row = ap (λ n. beyond most n (places ys)) e ∙ ap (λ zs. beyond most held (places zs)) p ∙ ap (beyond most held) (moved-places xs) ∙ drop-map f (most - held) (places xs) }
 
   ask-row : (n : ℕ) {ps qs : List ℕ} {us vs : List Question} → Row ps qs → Asked us vs → Asked (ask n ps ∷ us) (ask n qs ∷ vs)
   ask-row n {ps} {qs} {us} {vs} p q = record { asked = ap (λ zs. ask n zs ∷ us) p.row ∙ ap (λ zs. ask n (map f qs) ∷ zs) q.asked }
@@ -294,7 +297,7 @@ module _ (f : ℕ → ℕ) where
 
   moved_listed : (cs : List Choice) → each (λ c. keep (is word) c.list) (map (moved_choice f) cs) ≡ map (moved f) (each (λ c. keep (is word) c.list) cs)
   moved_listed cs =
-      map_each (moved_choice f) (λ c. keep (is word) c.list) cs
+      flat_map-map (λ c. keep (is word) c.list) (moved_choice f) cs
       ∙ each_same (λ c. keep (is word) (map (moved f) c.list)) (λ c. map (moved f) (keep (is word) c.list)) (λ c. map-keep (moved f) (is word) c.list) cs
       ∙ sym (map-of-each (moved f) (λ (c : Choice). keep (is word) c.list) cs)
 
@@ -495,7 +498,7 @@ module _ (f : ℕ → ℕ) where
 
   moved-given : (fs : String) (t : Tables) → given_as fs (moved_tables f t) ≡ map (moved f) (given_as fs t)
   moved-given fs t =
-      map_each (moved_written f) (λ i. of_form fs i.args) t.code
+      flat_map-map (λ i. of_form fs i.args) (moved_written f) t.code
       ∙ each_same (λ (i : Written). of_form fs (map (moved_argument f) i.args)) (λ i. map (moved f) (of_form fs i.args)) (λ i. moved-of_form fs i.args) t.code
       ∙ sym (map-of-each (moved f) (λ (i : Written). of_form fs i.args) t.code)
 
@@ -515,7 +518,7 @@ module _ (f : ℕ → ℕ) where
   unfolding undeclared_switches
   moved-undeclared_switches n t =
       ap (λ zs. places (keep (absent-from (map (moved_choice f) t.switches)) zs)) (moved-given (cond n "w" "x") t)
-      ∙ ap places (keep_same (absent-from (map (moved_choice f) t.switches)) (absent-from t.switches) still (map (moved f) (given_as (cond n "w" "x") t)))
+      ∙ ap places (filter_agree (absent-from (map (moved_choice f) t.switches)) (absent-from t.switches) still (map (moved f) (given_as (cond n "w" "x") t)))
       ∙ moved-kept (absent-from t.switches) (given_as (cond n "w" "x") t)
     where
       absent-from : List Choice → Item → Bool
@@ -539,8 +542,8 @@ module _ (f : ℕ → ℕ) where
           ≡ map f (each (λ (i : Written). cond (is_end (operation i.op).flow) [] (i.at ∷ [])) (drop (pred (length code)) code))
       ends code =
           ap (λ n. each (λ (i : Written). cond (is_end (operation i.op).flow) [] (i.at ∷ [])) (drop (pred n) (map (moved_written f) code))) (length-map code (moved_written f))
-          ∙ ap (each (λ (i : Written). cond (is_end (operation i.op).flow) [] (i.at ∷ []))) (map-drop (moved_written f) (pred (length code)) code)
-          ∙ map_each (moved_written f) (λ i. cond (is_end (operation i.op).flow) [] (i.at ∷ [])) (drop (pred (length code)) code)
+          ∙ ap (each (λ (i : Written). cond (is_end (operation i.op).flow) [] (i.at ∷ []))) (drop-map (moved_written f) (pred (length code)) code)
+          ∙ flat_map-map (λ i. cond (is_end (operation i.op).flow) [] (i.at ∷ [])) (moved_written f) (drop (pred (length code)) code)
           ∙ each_same (λ (i : Written). cond (is_end (operation i.op).flow) [] (f i.at ∷ [])) (λ i. map f (cond (is_end (operation i.op).flow) [] (i.at ∷ [])))
           (λ i. sym (map-cond f (is_end (operation i.op).flow) [] (i.at ∷ []))) (drop (pred (length code)) code)
           ∙ sym (map-of-each f (λ (i : Written). cond (is_end (operation i.op).flow) [] (i.at ∷ [])) (drop (pred (length code)) code))

@@ -4,7 +4,7 @@ use Rattle.std.proofs.Math.Path.{refl}
 use Rattle.std.proofs.Common.{ap, sym, subst, ◌∙◌, eqb→eq, leb→le, le-ltb, lt-ltb, arith}
 use Rattle.std.proofs.Math.Bool.{true, false, not}
 use Rattle.std.specs.Bool.{beq}
-use Rattle.std.proofs.lemmas.Bool.{false≢true}
+use Rattle.std.proofs.lemmas.Bool.{false≢true, or_parts}
 use Prim.Native.String.{String}
 use Rattle.language.specs.Limits as limit
 use Rattle.language.specs.Instructions.{operation, operator_of}
@@ -16,7 +16,6 @@ use Rattle.syntax.specs.Items.{sort_of, same_sort, a_word}
 use Rattle.syntax.specs.Items.Sort.{word}
 use Rattle.syntax.specs.Statements.{Keyword, editions, keywords, words_of, own, keyword_of, same_keyword}
 use Rattle.syntax.specs.Statements.Keyword.{none, unknown, SEKCJA, KONS, KONP, switch, instr}
-use Rattle.macros.proofs.AcceptedLaws.{neither}
 use Rattle.layout.proofs.ArgumentLaws.{operator-back, operator-range}
 use Rattle.editions.specs.Convert.{beside, respell}
 
@@ -100,15 +99,15 @@ module _ (w : List ℕ) where
       → each (λ r. beside w (bytes r.0) (bytes r.1)) rs ≡ []
   none_beside [] g h = refl
   none_beside (r ∷ rs) g h =
-      let p = neither (bytes_equal w (bytes r.0)) (any (bytes_equal w) (map (λ r. bytes r.0) rs)) g in
-      let q = neither (bytes_equal w (bytes r.1)) (any (bytes_equal w) (map (λ r. bytes r.1) rs)) h in
+      let p = or_parts (bytes_equal w (bytes r.0)) (any (bytes_equal w) (map (λ r. bytes r.0) rs)) g in
+      let q = or_parts (bytes_equal w (bytes r.1)) (any (bytes_equal w) (map (λ r. bytes r.1) rs)) h in
       rw (p.0, q.0) (none_beside rs p.1 q.1)
 
   none_ahead : (ks : List (String × Keyword)) → any (bytes_equal w) (map (λ k. bytes k.0) ks) ≡ false
       → get_or ks (ahead (λ k. bytes_equal w (bytes k.0)) ks) ("", unknown) ≡ ("", unknown)
   none_ahead [] g = refl
   none_ahead (k ∷ ks) g =
-      let p = neither (bytes_equal w (bytes k.0)) (any (bytes_equal w) (map (λ k. bytes k.0) ks)) g in
+      let p = or_parts (bytes_equal w (bytes k.0)) (any (bytes_equal w) (map (λ k. bytes k.0) ks)) g in
       subst (λ b. get_or (k ∷ ks) (elim b [ true ↦ 0 | false ↦ suc (ahead (λ k. bytes_equal w (bytes k.0)) ks) ]) ("", unknown) ≡ ("", unknown)) (sym p.0) (none_ahead ks p.1)
 
   any-both : (rs ss : List (String × String × Keyword))
@@ -116,10 +115,10 @@ module _ (w : List ℕ) where
       → any (bytes_equal w) (map (λ k. bytes k.0) (map {B = String × Keyword} (λ r. (r.0, r.2)) rs ++ map {B = String × Keyword} (λ r. (r.1, r.2)) ss)) ≡ false
   any-both [] [] g h = refl
   any-both [] (s ∷ ss) g h =
-      let p = neither (bytes_equal w (bytes s.1)) (any (bytes_equal w) (map (λ r. bytes r.1) ss)) h in
+      let p = or_parts (bytes_equal w (bytes s.1)) (any (bytes_equal w) (map (λ r. bytes r.1) ss)) h in
       rw p.0 (any-both [] ss refl p.1)
   any-both (r ∷ rs) ss g h =
-      let p = neither (bytes_equal w (bytes r.0)) (any (bytes_equal w) (map (λ r. bytes r.0) rs)) g in
+      let p = or_parts (bytes_equal w (bytes r.0)) (any (bytes_equal w) (map (λ r. bytes r.0) rs)) g in
       rw p.0 (any-both rs ss p.1 h)
 
   -- A word is one of the 92, or respell leaves it and it is no keyword and no edition's own

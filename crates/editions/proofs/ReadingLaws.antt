@@ -7,7 +7,8 @@ use mathlib.Core.List.{List, [], ◌∷◌, ◌++◌, map, map-append, append_as
 use Prim.Native.Nat.{ℕ, ◌+◌}
 use Rattle.std.proofs.Math.Dec.{eqb}
 use Rattle.std.proofs.Math.ListN.{drop}
-use Rattle.std.proofs.lemmas.List.{get_or_at}
+use Rattle.std.proofs.lemmas.List.{get_or_at, drop-map, take-map}
+use Rattle.std.proofs.lemmas.List.Elements.{filter-append}
 use Rattle.lists.specs.Lists.{head_or, if_any, keep, each}
 use Rattle.syntax.specs.Items.{Sort, sort_of, same_sort, Item, is, places, a_word, a_text, a_mark, ends_text, takes_next, char_of, allows, Mode, opens, begins, itself, mode_after, items_at, left_over, read, attach, named, parted, statements, line_of, up_from, lines_of, line_at}
 use Rattle.syntax.specs.Items.Sort.{separator, word, colon, end, text, wrong}
@@ -16,9 +17,8 @@ use Rattle.syntax.specs.Items.Mode.{outside, in_word, in_comment, in_text}
 use Rattle.syntax.specs.Statements.{is_operator, operator, behind}
 use Rattle.syntax.proofs.LineLaws.{line-here}
 use Rattle.syntax.proofs.LoadLaws.{named-leads}
-use Rattle.macros.proofs.FaultLaws.{keep-both}
 use Rattle.macros.proofs.LineLaws.{line_on}
-use Rattle.editions.proofs.MapLaws.{map-cond, map-drop, map-take, map-head_or, map-if_any}
+use Rattle.editions.proofs.MapLaws.{map-cond, map-head_or, map-if_any}
 use Rattle.editions.specs.Moving.{moved}
 use Rattle.editions.proofs.MovingLaws.{moved-places}
 use Rattle.editions.specs.Rewriting.{reading, next_place, next_line, nowhere, colon_next, operators_in}
@@ -123,8 +123,8 @@ module _ (f : ℕ → ℕ) where
   moved-attach i js =
       λ k. (ap (λ b. cond (is word i && b) (shown (places (take 1 (map (moved f) js))) ∷ drop 1 (map (moved f) js)) (moved f i ∷ map (moved f) js)) (map-if_any (moved f) false (is colon) js)
       ∙ ap (λ ps. cond (is word i && if_any false (is colon) js) (shown ps ∷ drop 1 (map (moved f) js)) (moved f i ∷ map (moved f) js))
-      (ap places (map-take (moved f) 1 js) ∙ moved-places f (take 1 js))
-      ∙ ap (λ zs. cond (is word i && if_any false (is colon) js) (shown (map f (places (take 1 js))) ∷ zs) (moved f i ∷ map (moved f) js)) (map-drop (moved f) 1 js)
+      (ap places (take-map (moved f) 1 js) ∙ moved-places f (take 1 js))
+      ∙ ap (λ zs. cond (is word i && if_any false (is colon) js) (shown (map f (places (take 1 js))) ∷ zs) (moved f i ∷ map (moved f) js)) (drop-map (moved f) 1 js)
       ∙ sym (map-cond (moved f) (is word i && if_any false (is colon) js)
       (record { at = i.at; sort = word; chars = i.chars; good = i.good; colon = places (take 1 js) } ∷ drop 1 js) (i ∷ js))) k
     where
@@ -140,7 +140,7 @@ module _ (f : ℕ → ℕ) where
   unfolding parted
   moved-parted i xs =
       ap (λ zs. cond (is end i) ([] ∷ map (map (moved f)) xs) ((moved f i ∷ zs) ∷ drop 1 (map (map (moved f)) xs))) (map-head_or (map (moved f)) [] xs)
-      ∙ ap (λ zs. cond (is end i) ([] ∷ map (map (moved f)) xs) (map (moved f) (i ∷ head_or [] xs) ∷ zs)) (map-drop (map (moved f)) 1 xs)
+      ∙ ap (λ zs. cond (is end i) ([] ∷ map (map (moved f)) xs) (map (moved f) (i ∷ head_or [] xs) ∷ zs)) (drop-map (map (moved f)) 1 xs)
       ∙ sym (map-cond (map (moved f)) (is end i) ([] ∷ xs) ((i ∷ head_or [] xs) ∷ drop 1 xs))
 
   pub moved-statements : (js : List Item) → statements (map (moved f) js) ≡ map (map (moved f)) (statements js)
@@ -279,7 +279,7 @@ operators-first p (i ∷ js) = go (is end i) p (is_operator i) refl refl (λ q. 
         ≡ cond a (operators_in true js) (cond (p && b) (keep (is word) (i ∷ []) ++ operators_in false js) (operators_in p js))
     go true true b e q ih = rw e (ap (keep (is word)) (each-head S) ∙ ih true)
     go true false b e q ih = rw e (ap (keep (is word)) (each-head S) ∙ ih true)
-    go false true true e q ih = rw (e, q) (keep-both (is word) (i ∷ []) (each operator (drop 1 S)) ∙ ap (λ zs. keep (is word) (i ∷ []) ++ zs) (ih false))
+    go false true true e q ih = rw (e, q) (filter-append (is word) (i ∷ []) (each operator (drop 1 S)) ∙ ap (λ zs. keep (is word) (i ∷ []) ++ zs) (ih false))
     go false true false e q ih = rw (e, q) (ih true)
     go false false b e q ih = rw e (ih false)
 

@@ -7,6 +7,8 @@ use Rattle.std.proofs.lemmas.Bool.{false≢true}
 use mathlib.Core.List.{List, [], ◌∷◌, ◌++◌, append_assoc, append-nil}
 use Prim.Native.Nat.{ℕ, ◌+◌}
 use Rattle.std.proofs.Math.Dec.{T}
+use lib.Ieee.Bits.{is_true}
+use Rattle.std.specs.Bool.{passes}
 use Rattle.lists.specs.Lists.{filled, if_any}
 use Rattle.lists.specs.ListLaws.{T-left, T-right, T-both}
 use Rattle.syntax.specs.Items.{Sort, sort_of, same_sort, Item, is, a_word, a_text, a_mark, ends_text, takes_next, char_of, allows, Stage, Mode, opens, closes, begins, itself, mode_after, items_at, left_over, attach, named}
@@ -14,7 +16,7 @@ use Rattle.syntax.specs.Items.Sort.{separator, word, colon, end, text, wrong}
 use Rattle.syntax.specs.Items.Stage.{first-star, inside, last-slash}
 use Rattle.syntax.specs.Items.Mode.{outside, in_word, in_comment, in_text}
 use Rattle.syntax.specs.Statements.{is_operator}
-use Rattle.macros.proofs.TileLaws.{truth}
+use Rattle.syntax.proofs.SortLaws.{same-sort}
 use Rattle.editions.specs.Convert.{respell}
 use Rattle.editions.proofs.PairLaws.{spelled, spelled_kept, filled-kept}
 use Rattle.editions.proofs.ReadingLaws.{colon-anywhere}
@@ -23,10 +25,6 @@ use Rattle.editions.specs.Rewriting.Way.{out, spelling, note, quote}
 use Rattle.editions.specs.Turning.{respelled_item, turned_items}
 
 -- Bytes of words
-
-pub holds : (b : Bool) → T b → b ≡ true
-holds true t = refl
-holds false t = absurd t
 
 -- a byte of a word is no other byte that has a part in texts and comments
 other_byte : (b c : ℕ) → is_word b ≡ true → is_word c ≡ false → eqb b c ≡ false
@@ -52,18 +50,10 @@ unfolding sort_of
 no-star b h = other_byte b 42 h refl
 
 pub word-sort : (b : ℕ) → is_word b ≡ true → sort_of b ≡ word
-word-sort b = go (sort_of b)
-  where
-    go : (k : Sort) → same_sort word k ≡ true → k ≡ word
-    go separator h = absurd (false≢true h)
-    go word h = refl
-    go colon h = absurd (false≢true h)
-    go end h = absurd (false≢true h)
-    go text h = absurd (false≢true h)
-    go wrong h = absurd (false≢true h)
+word-sort b h = same-sort word (sort_of b) h
 
 pub longer-spelled : (w : List ℕ) (b : ℕ) → T (spelled w) → is_word b ≡ true → T (spelled (w ++ (b ∷ [])))
-longer-spelled [] b h k = T-both (is_word b) true (truth (is_word b) k) tt
+longer-spelled [] b h k = T-both (is_word b) true (passes (is_word b) k) tt
 longer-spelled (c ∷ w) b h k = T-both (is_word c) (spelled (w ++ (b ∷ []))) (T-left (is_word c) (spelled w) h) (longer-spelled w b (T-right (is_word c) (spelled w) h) k)
 
 pub longer-filled : (w : List ℕ) (b : ℕ) → T (filled (w ++ (b ∷ [])))
@@ -98,21 +88,21 @@ unfolding reading items_at mode_after left_over
 in_word-reads l w [] [] h e = ap (λ u. a_word l u ∷ []) (sym (append-nil w))
 in_word-reads l w [] (c ∷ s) h e = rw (e, append-nil w) refl
 in_word-reads l w (b ∷ v) s h e =
-    let t : is_word b ≡ true = holds (is_word b) (T-left (is_word b) (spelled v) h) in
+    let t : is_word b ≡ true = is_true (is_word b) (T-left (is_word b) (spelled v) h) in
     rw (t, no_line l b t) (in_word-reads l (w ++ (b ∷ [])) v s (T-right (is_word b) (spelled v) h) e ∙ ap (λ u. a_word l u ∷ reading next_line outside l s) (append_assoc w (b ∷ []) v))
 
 pub word_reads : (l : ℕ) (v s : List ℕ) → T (spelled v) → T (filled v) → Ends s → reading next_line outside l (v ++ s) ≡ a_word l v ∷ reading next_line outside l s
 unfolding reading items_at mode_after itself begins
 word_reads l [] s h k e = absurd k
 word_reads l (b ∷ v) s h k e =
-    let t : is_word b ≡ true = holds (is_word b) (T-left (is_word b) (spelled v) h) in
+    let t : is_word b ≡ true = is_true (is_word b) (T-left (is_word b) (spelled v) h) in
     rw (word-sort b t, no_line l b t) (in_word-reads l (b ∷ []) v s (T-right (is_word b) (spelled v) h) e)
 
 -- The first byte that is written
 
 first_of : (v s : List ℕ) → T (spelled v) → T (filled v) → eqb (get_or (v ++ s) 0 0) 42 ≡ false
 first_of [] s h k = absurd k
-first_of (b ∷ v) s h k = no-star b (holds (is_word b) (T-left (is_word b) (spelled v) h))
+first_of (b ∷ v) s h k = no-star b (is_true (is_word b) (T-left (is_word b) (spelled v) h))
 
 spelling-first : (p : Bool) (w r : List ℕ) → T (spelled w) → T (filled w) → eqb (get_or (rewritten respell p (spelling w) r) 0 0) 42 ≡ false
 unfolding rewritten written written_last awaits_after way_after
@@ -134,7 +124,7 @@ out_first p (b ∷ r) = go (is_word b) refl
   where
     go : (t : Bool) → is_word b ≡ t
         → eqb (get_or (cond t [] (b ∷ []) ++ rewritten respell (awaits p (sort_of b) b (get_or r 0 0)) (way_begins (sort_of b) b (get_or r 0 0)) r) 0 0) 42 ≡ eqb b 42
-    go true e = rw (word-sort b e) (spelling-first p (b ∷ []) r (T-both (is_word b) true (truth (is_word b) e) tt) tt ∙ sym (no-star b e))
+    go true e = rw (word-sort b e) (spelling-first p (b ∷ []) r (T-both (is_word b) true (passes (is_word b) e) tt) tt ∙ sym (no-star b e))
     go false e = refl
 
 pub note-first : (p : Bool) (k : Stage) (r : List ℕ) → get_or (rewritten respell p (note k) r) 0 0 ≡ get_or r 0 0
@@ -166,15 +156,7 @@ turned-leads p (i ∷ js) = go (is end i) (p && is_operator i)
 
 turned-colon : (p : Bool) (i : Item) (js : List Item) → is colon i ≡ true → turned_items p (i ∷ js) ≡ i ∷ turned_items p js
 unfolding turned_items
-turned-colon p i js h = go i.sort refl h
-  where
-    go : (k : Sort) → i.sort ≡ k → same_sort colon k ≡ true → turned_items p (i ∷ js) ≡ i ∷ turned_items p js
-    go separator e q = absurd (false≢true q)
-    go word e q = absurd (false≢true q)
-    go colon e q = rw (e, and-false p) refl
-    go end e q = absurd (false≢true q)
-    go text e q = absurd (false≢true q)
-    go wrong e q = absurd (false≢true q)
+turned-colon p i js h = rw (same-sort colon i.sort h, and-false p) refl
 
 -- a word and what follows
 attach-turned : (p c : Bool) (l : ℕ) (w : List ℕ) (js : List Item) → if_any false (is colon) js ≡ c
@@ -264,7 +246,7 @@ module _ (b : ℕ) (r : List ℕ) (q : Reads r) where
       → named (reading next_line outside l (cond t [] (b ∷ []) ++ rewritten respell (awaits p (sort_of b) b (get_or r 0 0)) (way_begins (sort_of b) b (get_or r 0 0)) r))
       ≡ turned_items p (named (reading next_line outside l (b ∷ r)))
   unfolding reading items_at mode_after awaits way_begins itself begins
-  outside-step p l true e = rw (word-sort b e, no_line l b e) (q.spelt p (b ∷ []) l (T-both (is_word b) true (truth (is_word b) e) tt) tt)
+  outside-step p l true e = rw (word-sort b e, no_line l b e) (q.spelt p (b ∷ []) l (T-both (is_word b) true (passes (is_word b) e) tt) tt)
   outside-step p l false e = step (sort_of b) p l b r e q
 
   text-step : (p : Bool) (at : ℕ) (star : Bool) (cs : List ℕ) (good : Bool) (l : ℕ) (e : Bool) → ends_text star b ≡ e

@@ -15,6 +15,7 @@ use Rattle.syntax.specs.Items.Sort.{separator, word, colon, end, text, wrong}
 use Rattle.syntax.specs.Items.Stage.{first-star, inside, last-slash}
 use Rattle.syntax.specs.Items.Mode.{outside, in_word, in_comment, in_text}
 use Rattle.syntax.specs.Statements.{is_operator}
+use Rattle.syntax.proofs.SortLaws.{same-sort}
 use Rattle.editions.specs.Convert.{splice, with_operators}
 use Rattle.editions.proofs.LateLaws.{Since, Later, later, sooner}
 use Rattle.editions.proofs.ReadingLaws.{read-places, colon-anywhere, operators-same}
@@ -26,15 +27,7 @@ use Rattle.editions.proofs.RewritingLaws.{word-sort, calm}
 
 operators-colon : (p : Bool) (i : Item) (js : List Item) → is colon i ≡ true → operators_in p (i ∷ js) ≡ operators_in p js
 unfolding operators_in
-operators-colon p i js h = go i.sort refl h
-  where
-    go : (k : Sort) → i.sort ≡ k → same_sort colon k ≡ true → operators_in p (i ∷ js) ≡ operators_in p js
-    go separator e q = absurd (false≢true q)
-    go word e q = absurd (false≢true q)
-    go colon e q = rw (e, and-false p) refl
-    go end e q = absurd (false≢true q)
-    go text e q = absurd (false≢true q)
-    go wrong e q = absurd (false≢true q)
+operators-colon p i js h = rw (same-sort colon i.sort h, and-false p) refl
 
 operators-attach : (p c : Bool) (at : ℕ) (w : List ℕ) (js : List Item) → if_any false (is colon) js ≡ c
     → operators_in p (attach (a_word at w) js) ≡ cond (p && not c) (a_word at w ∷ operators_in (p && c) js) (operators_in (p && c) js)

@@ -1,7 +1,7 @@
 -- Respelling the operator and changing the edition leaves every question and every table.
 use Rattle.std.specs.Prelude.{◌≡◌, refl, Bool, true, false, cond, not, ◌&&◌, ◌||◌, List, [], ◌∷◌, ◌++◌, map, ℕ, ltb, length, take, drop}
 use Rattle.std.proofs.Common.{ap, sym, subst, ◌∙◌, true≢false, arith}
-use Rattle.std.proofs.lemmas.Bool.{false≢true}
+use Rattle.std.proofs.lemmas.Bool.{false≢true, and_parts}
 use Rattle.std.proofs.Math.Bool.{and-false}
 use Rattle.std.proofs.lemmas.List.{map-append}
 use Rattle.language.specs.Limits as limit
@@ -10,7 +10,7 @@ use Rattle.lists.specs.Lists.{filled, head_or, if_any, keep, each, bytes_equal}
 use Rattle.lists.specs.Quoted.{bytes}
 use Rattle.syntax.specs.ArgumentForms.{arguments_in, arguments, of_form, most, least}
 use Rattle.syntax.specs.Ending.{end_faults, last_questions}
-use Rattle.syntax.specs.Items.{Sort, same_sort, Item, is, places}
+use Rattle.syntax.specs.Items.{Sort, Item, is, places}
 use Rattle.syntax.specs.Items.Sort.{separator, word, colon, end, text, wrong}
 use Rattle.syntax.specs.Questions.{first_faults, operator_faults, label_faults, repeated, count_faults, instr_faults, switch_faults, beyond, instr_beyond, switch_beyond, questions}
 use Rattle.syntax.specs.Statements.{same_keyword, by_keyword, own, reserved, chooses_english, keyword_of, is_operator, front, behind, labels_in, operator, operator_at, keyword_in, rest, is_name, one_name, list_faults}
@@ -18,6 +18,7 @@ use Rattle.syntax.specs.Statements.Keyword.{none, unknown, SEKCJA, KONS, KONP}
 use Rattle.syntax.specs.Tables.{Tables, Closing, Draft, is_first, all_labels, contents, new_texts, number_in, new_numbers, with_instr, with_switch, tables_after, closing_faults, closing_after, draft_after}
 use Rattle.syntax.specs.Verdict.{ask, first_no}
 use Rattle.syntax.specs.Verdict.Verdict.{yes}
+use Rattle.syntax.proofs.SortLaws.{same-sort}
 use Rattle.macros.proofs.AcceptedLaws.{yes-at}
 use Rattle.editions.specs.Convert.{respell}
 use Rattle.editions.specs.Moving.{Passes, final}
@@ -144,15 +145,7 @@ unfolding keyword_of
 word-keyword i e = rw e refl
 
 colon-no-word : (i : Item) → is colon i ≡ true → is word i ≡ false
-colon-no-word i = go i.sort
-  where
-    go : (k : Sort) → same_sort colon k ≡ true → same_sort word k ≡ false
-    go separator h = refl
-    go word h = absurd (false≢true h)
-    go colon h = refl
-    go end h = refl
-    go text h = refl
-    go wrong h = refl
+colon-no-word i h = rw (same-sort colon i.sort h) refl
 
 -- an item that is no operator is no SEKCJA without a label either
 no-section : (i : Item) → is_operator i ≡ false → (not (filled i.colon) && same_keyword SEKCJA (keyword_of i)) ≡ false
@@ -356,10 +349,6 @@ a-name at (i ∷ js) h = go (is word i && identifier i.chars) refl h
     go true e k = full (is word i) i.chars e
     go false e k = let z : ◌≡◌ {A = ℕ} 0 1 = cc in absurd (omega arith)
 
-both_true : (a b : Bool) → (a && b) ≡ true → (a ≡ true) × (b ≡ true)
-both_true true b h = (refl, h)
-both_true false b h = absurd (false≢true h)
-
 -- the edition that a first statement chooses, after it passed
 edition-after : (x : List Item) → first_faults x ≡ []
     → chooses_english (turned x) ≡ cond (not (filled (head_or [] (contents (rest x))))) (chooses_english x) (not (chooses_english x))
@@ -371,7 +360,7 @@ edition-after (i ∷ js) h = go (is_operator i) refl (is word i) refl
     t = taken (not (filled i.colon) && same_keyword SEKCJA (keyword_of i)) (one_name identifier i.at js) i.at h
 
     section : same_keyword SEKCJA (keyword_of i) ≡ true
-    section = (both_true (not (filled i.colon)) (same_keyword SEKCJA (keyword_of i)) t.0).1
+    section = (and_parts (not (filled i.colon)) (same_keyword SEKCJA (keyword_of i)) t.0).1
 
     go : (b : Bool) → is_operator i ≡ b → (c : Bool) → is word i ≡ c
         → if_any false (λ (i : Item). bytes_equal i.chars (bytes "SECTION")) (behind (cond b (respelled_item i ∷ js) (i ∷ turned js)))

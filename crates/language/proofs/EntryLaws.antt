@@ -3,6 +3,7 @@ use Rattle.std.specs.Prelude.{◌≡◌, Bool, true, false, ◌&&◌, ◌||◌, 
 use mathlib.Core.List.{List, []}
 use Rattle.std.proofs.Common.{inl, inr}
 use Prim.Native.Nat.{ℕ}
+use Rattle.lists.specs.BoolLaws.{T-second}
 use Rattle.characters.specs.Below.Lists.{filled, bytes_equal}
 use Rattle.characters.specs.Below.ListLaws.{same_bytes-eq, same_bytes-refl}
 use Rattle.language.specs.Program.{Program, Entry, label_at, meets}
@@ -29,16 +30,12 @@ module _ (p : Program) (e : Entry) (w : List ℕ) where
       by-text true false v a b = absurd b
       by-text false u v a b = absurd a
 
-      by_name : (t v : Bool) → T v → T (t || v)
-      by_name true v h = tt
-      by_name false v h = h
-
       same : (l : List ℕ) → l ≡ w → T (bytes_equal l w)
       same l q = rw q (same_bytes-refl w)
 
       meeting : TextOrName → T ((filled e.text && bytes_equal e.text w) || bytes_equal name w)
       meeting (inl h) = by-text (filled e.text) (bytes_equal e.text w) (bytes_equal name w) h.0 (same e.text h.1)
-      meeting (inr h) = by_name (filled e.text && bytes_equal e.text w) (bytes_equal name w) (same name h)
+      meeting (inr h) = T-second (filled e.text && bytes_equal e.text w) (bytes_equal name w) (same name h)
 
   pub name-alone : e.text ≡ [] → meets p e w ≡ bytes_equal (label_at p e.label).name w
   unfolding meets

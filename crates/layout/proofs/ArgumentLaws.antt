@@ -2,6 +2,7 @@
 use Rattle.std.specs.Prelude.{◌≡◌, refl, Bool, true, false, not, cond, ◌&&◌, ◌||◌, List, [], ◌∷◌, ℕ, zero, suc, pred, ◌+◌, ◌*◌, ◌-◌, ◌/◌, ◌%◌, ◌≤◌, ◌<◌, T, leb, ltb, eqb, length, get_or, ℤ, pos, negsuc, nat_abs}
 use Rattle.std.proofs.Common.{sym, ap, ◌∙◌, subst, arith, leb→le, ltb→lt, lt-ltb, le-ltb, ne_eqb, leb-true}
 use Rattle.std.proofs.lemmas.Bool.{lt-leb}
+use Rattle.lists.specs.BoolLaws.{T-second}
 use Rattle.machine.specs.Below.Limits as limit
 use Rattle.machine.specs.Below.ListLaws.{T-left, T-right, all_among, all_head, all_tail, ahead-le, same_bytes-eq}
 use Rattle.machine.specs.Below.Lists.{any, ahead, filled, all, bytes_equal, among}
@@ -141,10 +142,6 @@ kind_of k v h = omega arith
 argument_value : (k v : ℕ) → k < 8 → (k + 8 * v) / 8 ≡ v
 argument_value k v h = omega arith
 
-pub T-or : (a b : Bool) → T b → T (a || b)
-T-or true b h = tt
-T-or false b h = h
-
 -- ---- references to the tables of texts and numbers
 
 code-small : (z : ℤ) → nat_abs z ≤ limit.small → (8388592 ≤ code z) × (code z < 8388623)
@@ -218,7 +215,7 @@ module _ (p : Program) (c : List ℕ) (texts-read : (k : ℕ) → k < length p.t
       rw (kind_of 4 v (omega arith), argument_value 4 v (omega arith)) (ap class (class_back c cs (T-right (filled cs) (bytes_equal cs (classes cs)) h)))
   arg-back (text t) h =
       let v : ℕ = text_ref p t in
-      rw (kind_of 5 v (omega arith), argument_value 5 v (omega arith)) (ap text (text-back t (T-or (not (filled t)) (good_text t && kept_text p t) h)))
+      rw (kind_of 5 v (omega arith), argument_value 5 v (omega arith)) (ap text (text-back t (T-second (not (filled t)) (good_text t && kept_text p t) h)))
   arg-back (Arg.number z) h =
       let v : ℕ = number_ref p z in
       rw (kind_of 6 v (omega arith), argument_value 6 v (omega arith)) (ap Arg.number (number-back z h))
@@ -258,5 +255,5 @@ module _ (p : Program) where
   arg_cell-below k (label j) h = omega (arith, k.facts.labels_few, ltb→lt j (length p.labels) h)
   arg_cell-below k (switch j) h = omega (arith, k.facts.switches_few, ltb→lt j (length p.switches) h)
   arg_cell-below k (class cs) h = omega (arith, class_mask-most cs)
-  arg_cell-below k (text t) h = omega (arith, k.facts.texts_few, text_ref-below t (T-or (not (filled t)) (good_text t && kept_text p t) h))
+  arg_cell-below k (text t) h = omega (arith, k.facts.texts_few, text_ref-below t (T-second (not (filled t)) (good_text t && kept_text p t) h))
   arg_cell-below k (Arg.number z) h = omega (arith, k.facts.numbers_few, number_ref-most z)

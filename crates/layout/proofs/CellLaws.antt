@@ -238,11 +238,6 @@ pub padded-at : (c l post : List ℕ) (k m : ℕ) → drop k c ≡ padded m l ++
 unfolding padded
 padded-at c l post k m e j h = cell_at c l (replicate (m - length l) 0 ++ post) k (e ∙ append_assoc l (replicate (m - length l) 0) post) j h
 
-pub get_d-map-at : {X Y : Type 0} (f : X → Y) (xs : List X) (i : ℕ) (d : X) (e : Y) → i < length xs → get_or (map f xs) i e ≡ f (get_or xs i d)
-get_d-map-at f [] i d e h = absurd (not-suc-le-zero h)
-get_d-map-at f (x ∷ xs) zero d e h = refl
-get_d-map-at f (x ∷ xs) (suc i) d e h = get_d-map-at f xs i d e (le_of_suc-le-suc h)
-
 -- element k of what f makes of element i
 module _ {X Y : Type 0} (f : X → List Y) (z : X) (d : Y) where
   pub get_d-each : (xs : List X) (i k : ℕ) → i < length xs → k < length (f (get_or xs i z))

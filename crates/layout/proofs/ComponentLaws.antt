@@ -1,7 +1,8 @@
 -- Laws of components and records in bytes: they are read back, in front of anything, and equal bytes are equal components.
-use Rattle.std.specs.Prelude.{◌≡◌, refl, Bool, true, false, List, [], ◌∷◌, ◌++◌, ℕ, zero, suc, ◌+◌, ◌*◌, ◌-◌, ◌/◌, ◌%◌, ◌≤◌, ◌<◌, T, length, take, drop}
+use Rattle.std.specs.Prelude.{◌≡◌, refl, List, [], ◌∷◌, ◌++◌, ℕ, zero, suc, ◌+◌, ◌*◌, ◌-◌, ◌/◌, ◌%◌, ◌≤◌, ◌<◌, T, length, take, drop}
 use Rattle.std.proofs.Common.{sym, ap, ◌∙◌, subst, append_assoc, append-nil, not-suc-le-zero, arith, length-append, length-drop, ne_eqb}
 use Rattle.std.proofs.Math.Seq.{take-append_seam, drop-append_seam}
+use Rattle.lists.specs.BoolLaws.{same_test}
 use Rattle.machine.specs.Below.ListLaws.{same_bytes-eq, same_bytes-refl}
 use Rattle.machine.specs.Below.Lists.{total, bytes_equal}
 use Rattle.machine.specs.Below.LanguageValues.{Component, Record, chars, same}
@@ -49,15 +50,9 @@ pub component-inj : (x y : Component) → Ok x → Ok y → component_bytes x �
 component-inj x y h k e =
     sym (component-back x [] h) ∙ ap component_in (ap (λ l. l ++ []) e) ∙ component-back y [] k
 
-both : (a b : Bool) → (T a → T b) → (T b → T a) → a ≡ b
-both true true f g = refl
-both true false f g = absurd (f tt)
-both false true f g = absurd (g tt)
-both false false f g = refl
-
 -- equal bytes are equal components
 pub same_bytes : (x y : Component) → Ok x → Ok y → same x y ≡ bytes_equal (component_bytes x) (component_bytes y)
-same_bytes x y h k = both (same x y) (bytes_equal (component_bytes x) (component_bytes y)) to from
+same_bytes x y h k = same_test (same x y) (bytes_equal (component_bytes x) (component_bytes y)) to from
   where
     to : T (same x y) → T (bytes_equal (component_bytes x) (component_bytes y))
     to t = subst (λ z. T (bytes_equal (component_bytes x) (component_bytes z))) (same-eq x y t) (same_bytes-refl (component_bytes x))

@@ -1,5 +1,5 @@
 -- Laws of the state at rest: what is written is read back, what is well formed is written in one way only, and where each part stands.
-use Rattle.std.specs.Prelude.{◌≡◌, refl, Bool, true, false, cond, ◌&&◌, T, eqb, get_or, drop, replicate}
+use Rattle.std.specs.Prelude.{◌≡◌, refl, Bool, true, false, cond, ◌&&◌, T, get_or, drop, replicate}
 use Rattle.std.proofs.Common.{sym, ap, ◌∙◌, arith, le→leb, length-drop, take-append-drop, drop-drop, get_or-drop}
 use mathlib.Core.List.{List, [], ◌∷◌, ◌++◌, map, append_assoc}
 use Prim.Native.Nat.{ℕ, zero, suc, ◌+◌, ◌*◌, ◌≤◌, ◌<◌}
@@ -7,6 +7,7 @@ use Rattle.std.proofs.Math.Dec.{leb→le}
 use Rattle.std.proofs.Math.ListN.{length, take, length-append, get_or-append, get_or-map}
 use Rattle.std.proofs.lemmas.List.{length-map}
 use Rattle.std.proofs.Math.Seq.{take_at, drop_at}
+use Rattle.lists.specs.BoolLaws.{sign-back}
 use Rattle.machine.specs.Below.Limits as limit
 use Rattle.machine.specs.Below.ListLaws.{T-left, T-right, T-both, same_bytes-eq, same_bytes-refl}
 use Rattle.machine.specs.Below.Lists.{each, bytes_equal}
@@ -73,10 +74,6 @@ two-places (a ∷ []) h = absurd (omega (arith, h))
 two-places (a ∷ b ∷ []) h = refl
 two-places (a ∷ b ∷ c ∷ ns) h = absurd (omega (arith, h))
 
-sign-back : (b : Bool) → eqb (cond b 1 0) 1 ≡ b
-sign-back true = refl
-sign-back false = refl
-
 sign_below : (b : Bool) → cond b 1 0 < 16777216
 sign_below true = omega arith
 sign_below false = omega arith
@@ -106,17 +103,20 @@ module _ (s : State) (f : Fine s) where
   unfolding strings
   length-strings = simp length-append (omega (arith, length-E, length-F, f.outputs_is))
 
-  drop-E : drop 32 (strings s) ≡ F ++ R
+  pub take-E : take 32 (strings s) ≡ E
+  unfolding strings
+  take-E = take_at E (F ++ R) 32 length-E
+
+  pub drop-E : drop 32 (strings s) ≡ F ++ R
   unfolding strings
   drop-E = drop_at E (F ++ R) 32 length-E
 
-  drop-F : drop layout.stack_string (strings s) ≡ R
+  pub drop-F : drop layout.stack_string (strings s) ≡ R
   unfolding strings
   drop-F = rw (← append_assoc E F R) (drop_at (E ++ F) R layout.stack_string (simp length-append (omega (arith, length-E, length-F))))
 
   read-E : map components_in (take 32 (strings s)) ≡ s.store.exprs
-  unfolding strings
-  read-E = rw (take_at E (F ++ R) 32 length-E) (exprs-back s.store.exprs f.exprs_ok)
+  read-E = rw take-E (exprs-back s.store.exprs f.exprs_ok)
 
   read-F : files_in 32 (drop 32 (strings s)) ≡ s.store.files
   read-F = rw drop-E (ap (λ n. files_in n (F ++ R)) (sym f.files_is) ∙ files-back s.store.files R f.files_ok)

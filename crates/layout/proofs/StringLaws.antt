@@ -1,12 +1,12 @@
 -- Laws of the strings at rest: they are read back, and each lies where the lengths before it say.
 use Rattle.std.specs.Prelude.{◌≡◌, refl, length, get_or, take, drop}
-use Rattle.std.proofs.Common.{sym, ap, ◌∙◌, not-suc-le-zero, le_of_suc-le-suc, arith, length-append, drop_at}
+use Rattle.std.proofs.Common.{sym, ap, ◌∙◌, not-suc-le-zero, le_of_suc-le-suc, arith, length-append, drop_at, drop-drop}
 use mathlib.Core.List.{List, [], ◌∷◌, ◌++◌, map, append_assoc}
 use Prim.Native.Nat.{ℕ, zero, suc, ◌+◌, ◌*◌, ◌-◌, ◌/◌, ◌%◌, ◌≤◌, ◌<◌}
 use Rattle.std.proofs.Math.ListN.{replicate}
 use Rattle.std.proofs.lemmas.List.{length-replicate}
 use Rattle.std.proofs.Math.Seq.{take-append_seam, drop-append_seam}
-use Rattle.machine.specs.Below.Lists.{joined}
+use Rattle.machine.specs.Below.Lists.{joined, total}
 use Rattle.layout.specs.Bounds.{Each, Below}
 use Rattle.layout.proofs.CellLaws.{twice, twice-one, below-append, below-zeros, two_back, two-below}
 use Rattle.layout.specs.Cells.{two}
@@ -79,7 +79,7 @@ unfolding lengths_in
 length-lengths_in zero l = refl
 length-lengths_in (suc n) l = ap suc (length-lengths_in n (drop 2 l))
 
-length-cut-by : (ns l : List ℕ) → length (cut_by ns l) ≡ length ns
+pub length-cut-by : (ns l : List ℕ) → length (cut_by ns l) ≡ length ns
 unfolding cut_by
 length-cut-by [] l = refl
 length-cut-by (n ∷ ns) l = ap suc (length-cut-by ns (drop n l))
@@ -98,6 +98,14 @@ pub cut-by-joined : (vs : List (List ℕ)) (t : List ℕ) → cut_by (map length
 unfolding cut_by
 cut-by-joined [] t = refl
 cut-by-joined (v ∷ vs) t = rw (append_assoc, take-append_seam v (joined vs ++ t), drop-append_seam v (joined vs ++ t), cut-by-joined vs t)
+
+-- the string at an index lies behind those before it
+pub cut_at : (ns l : List ℕ) (k : ℕ) → k < length ns → get_or (cut_by ns l) k [] ≡ take (get_or ns k 0) (drop (total (λ n. n) (take k ns)) l)
+unfolding cut_by
+cut_at [] l k h = absurd (not-suc-le-zero h)
+cut_at (n ∷ ns) l zero h = refl
+cut_at (n ∷ ns) l (suc k) h =
+    cut_at ns (drop n l) k (le_of_suc-le-suc h) ∙ ap (take (get_or ns k 0)) (drop-drop (total (λ n. n) (take k ns)) n l)
 
 module _ (vs : List (List ℕ)) (n : length vs ≡ layout.strings_count) where
   lengths-long : length (lengths vs) ≡ layout.lengths_bytes

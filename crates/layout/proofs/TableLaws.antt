@@ -8,7 +8,7 @@ use Prim.Native.Nat.{ℕ, zero, suc, ◌+◌, ◌*◌, ◌/◌, ◌%◌, ◌≤�
 use native.Mathlib.Omega.{arith}
 use Rattle.std.proofs.Math.Dec.{leb}
 use Rattle.std.proofs.Math.ListN.{length, length-append, length-replicate}
-use Rattle.std.proofs.lemmas.List.{length-map}
+use Rattle.std.proofs.lemmas.List.{length-map, get_or-map}
 use Rattle.std.proofs.Math.IntN.{nat_abs}
 use Rattle.machine.specs.Below.Limits as limit
 use Rattle.machine.specs.Below.ListLaws.{T-left, T-right, T-both, same_bytes-eq, same_bytes-refl}
@@ -19,7 +19,7 @@ use Rattle.machine.specs.Facts.{InstrFacts, LabelFacts}
 use Rattle.machine.specs.WellFormed.{ranged, good_program}
 use Rattle.layout.proofs.ArgumentLaws.{bit-most, operator-back, operator-below, text-back, arg-back, arg_cell-below, text_ref-below}
 use Rattle.layout.specs.Bounds.{Below, TextOk, EntryOk, ProgramOk, Tabled}
-use Rattle.layout.proofs.CellLaws.{each_in, below-append, below-zeros, each_below, map_below, code_below, uncode-code, length-each, length-fours, fours-below, take-unfours, tab-ext, length-padded, padded-below, block_at, first_cell, next_cell, padded-at, get_d-map-at, get_d-each, each_within, each-most}
+use Rattle.layout.proofs.CellLaws.{each_in, below-append, below-zeros, each_below, map_below, code_below, uncode-code, length-each, length-fours, fours-below, take-unfours, tab-ext, length-padded, padded-below, block_at, first_cell, next_cell, padded-at, get_d-each, each_within, each-most}
 use Rattle.layout.specs.Cells.{cell, fours, code, tab, padded}
 use Rattle.layout.proofs.ProgramLaws.{identifier-below, program-ok, length-each-total}
 use Rattle.layout.specs.Table.{text_ref, arg_cell, instr_cells, label_cells, text_cells, switch_cell, switch_cells, entry_cell, all_entries, counts, table_cells, chars_in, text_in, number_in, text_by, arg_in, instr_in, label_in, entry_in, switch_in, program_in, program_of, good_table}
@@ -27,10 +27,10 @@ use Rattle.layout.specs.Places as layout
 
 -- ---- blocks of the table
 
-length-label_cells : (l : Label) → length (label_cells l) ≡ 16
+pub length-label_cells : (l : Label) → length (label_cells l) ≡ 16
 length-label_cells l = ap suc (length-fours 15 l.name)
 
-length-text_cells : (t : List ℕ) → length (text_cells t) ≡ 16
+pub length-text_cells : (t : List ℕ) → length (text_cells t) ≡ 16
 length-text_cells t = ap suc (length-fours 15 t)
 
 -- a text of at most 60 bytes, four to a cell, at place k of a table
@@ -40,7 +40,7 @@ chars-back c t r k e h b = rw (e, take_at (fours 15 t) r 15 (length-fours 15 t))
 next_place : (c b r : List ℕ) (x k : ℕ) → drop k c ≡ x ∷ b ++ r → drop (1 + k) c ≡ b ++ r
 next_place c b r x k e = let z : k + 1 ≡ 1 + k = omega arith in rw z at (sym (drop-drop 1 k c) ∙ ap (drop 1) e)
 
-length-switch_cells : (n : ℕ) (ws : List Switch) → length (switch_cells n ws) ≡ length ws
+pub length-switch_cells : (n : ℕ) (ws : List Switch) → length (switch_cells n ws) ≡ length ws
 unfolding switch_cells
 length-switch_cells n [] = refl
 length-switch_cells n (w ∷ ws) = ap suc (length-switch_cells (n + length w.entries) ws)
@@ -161,7 +161,7 @@ module _ (p : Program) (h : ProgramOk p) where
   numbers-read : (k : ℕ) → k < length p.numbers → number_in c k ≡ get_or p.numbers k (pos 0)
   numbers-read k b =
       let e : cell c (layout.first_number + k) ≡ code (get_or p.numbers k (pos 0)) =
-      padded-at c (map code p.numbers) zeros layout.first_number 128 at-6 k (rw length-map b) ∙ get_d-map-at code p.numbers k (pos 0) 0 b in
+      padded-at c (map code p.numbers) zeros layout.first_number 128 at-6 k (rw length-map b) ∙ get_or-map code p.numbers k (pos 0) 0 b in
       rw e (uncode-code (get_or p.numbers k (pos 0)) (each_in (λ z. nat_abs z ≤ limit.size) p.numbers h.numbers_ok k (pos 0) b))
 
   -- ---- instructions and labels
@@ -215,7 +215,7 @@ module _ (p : Program) (h : ProgramOk p) where
   -- ---- switches and entries
 
   pub entry-at-cell : (k : ℕ) → k < length (all_entries p) → cell c (layout.first_entry + k) ≡ entry_cell p (get_or (all_entries p) k no_entry)
-  entry-at-cell k b = padded-at c (map (entry_cell p) (all_entries p)) behind_5 layout.first_entry 128 at_5 k (rw length-map b) ∙ get_d-map-at (entry_cell p) (all_entries p) k no_entry 0 b
+  entry-at-cell k b = padded-at c (map (entry_cell p) (all_entries p)) behind_5 layout.first_entry 128 at_5 k (rw length-map b) ∙ get_or-map (entry_cell p) (all_entries p) k no_entry 0 b
 
   entry_read : (k : ℕ) → k < length (all_entries p) → entry_in c k ≡ get_or (all_entries p) k no_entry
   entry_read k b =

@@ -7,5 +7,7 @@ pub mod Components
 pub mod Strings
 pub mod Memory
 pub mod Bounds
+pub mod EachLaws
+pub mod CodeLaws
 pub mod Examples
 pub mod Below

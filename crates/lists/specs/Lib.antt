@@ -5,3 +5,6 @@ pub mod ListLaws
 pub mod LoopLaws
 pub mod SearchLaws
 pub mod RangeLaws
+pub mod SumLaws
+pub mod BoolLaws
+pub mod AppendLaws

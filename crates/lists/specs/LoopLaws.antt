@@ -4,11 +4,11 @@ use Rattle.std.proofs.Common.{ap, add-one, arith, drop_of_length-le, drop-cons}
 use Rattle.lists.specs.Lists.{all, any, ahead}
 
 module _ {X : Type 0} (p : X → Bool) (x : X) (xs : List X) where
-  ahead_none : p x ≡ true → ahead p (x ∷ xs) ≡ 0
-  ahead_none e = ap (λ b. elim b [ true ↦ 0 | false ↦ suc (ahead p xs) ]) e
+  pub ahead-zero : p x ≡ true → ahead p (x ∷ xs) ≡ 0
+  ahead-zero e = ap (λ b. elim b [ true ↦ 0 | false ↦ suc (ahead p xs) ]) e
 
-  ahead-one : p x ≡ false → ahead p (x ∷ xs) ≡ suc (ahead p xs)
-  ahead-one e = ap (λ b. elim b [ true ↦ 0 | false ↦ suc (ahead p xs) ]) e
+  pub ahead-suc : p x ≡ false → ahead p (x ∷ xs) ≡ suc (ahead p xs)
+  ahead-suc e = ap (λ b. elim b [ true ↦ 0 | false ↦ suc (ahead p xs) ]) e
 
 module _ (p : ℕ → Bool) (l : List ℕ) (i : ℕ) where
   pub any_here : i < length l → p (get_or l i 0) ≡ true → any p (drop i l) ≡ true
@@ -31,10 +31,10 @@ module _ (p : ℕ → Bool) (l : List ℕ) (i : ℕ) where
 
   -- of a count, what was passed is added
   pub ahead-here : i < length l → p (get_or l i 0) ≡ true → i ≡ i + ahead p (drop i l)
-  ahead-here h e = rw (drop-cons l i 0 h, ahead_none p (get_or l i 0) (drop (suc i) l) e) (omega arith)
+  ahead-here h e = rw (drop-cons l i 0 h, ahead-zero p (get_or l i 0) (drop (suc i) l) e) (omega arith)
 
   pub ahead-next : i < length l → p (get_or l i 0) ≡ false → i + ahead p (drop i l) ≡ (i + 1) + ahead p (drop (i + 1) l)
-  ahead-next h e = rw (drop-cons l i 0 h, ahead-one p (get_or l i 0) (drop (suc i) l) e, add-one) (omega arith)
+  ahead-next h e = rw (drop-cons l i 0 h, ahead-suc p (get_or l i 0) (drop (suc i) l) e, add-one) (omega arith)
 
   pub ahead-end : length l ≤ i → i ≡ i + ahead p (drop i l)
   ahead-end h = rw (drop_of_length-le l h) (omega arith)

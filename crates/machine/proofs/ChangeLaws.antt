@@ -20,7 +20,7 @@ use Rattle.machine.specs.Addresses.{equal_count, ungiven}
 use Rattle.machine.specs.Keeps.{Clean, Faultless, Enough, Keeps}
 use Rattle.machine.proofs.AddressLaws.{ungiven-next}
 use Rattle.machine.proofs.KeepLaws.{keeps-refl}
-use Rattle.machine.proofs.SumLaws.{overrun-set, overrun-at}
+use Rattle.machine.proofs.SumLaws.{removed-total, passed-total, overrun-set, overrun-at}
 
 -- with more addresses given, no more are faults
 faults-mono : {l m : ℕ} → l ≤ m → (x : Component) → faults m x ≤ faults l x
@@ -230,25 +230,8 @@ module _ (ins : Inputs) where
 
   past_file-keeps : (b : Bool) (a : Arg) (k : ℕ) (s : Store) → Keeps ins s (past_file b a k s)
   unfolding past_file
-  past_file-keeps true a k s =
-      let f = file_of s a in
-      put_file-keeps a _ _ s
-      (λ g. omega (
-        arith,
-        total-append g f.before (drop k f.after),
-        total-append g f.before f.after,
-        total-split g k f.after,
-      ))
-  past_file-keeps false a k s =
-      let f = file_of s a in
-      put_file-keeps a _ _ s
-      (λ g. omega (
-        arith,
-        total-append g (f.before ++ take k f.after) (drop k f.after),
-        total-append g f.before (take k f.after),
-        total-append g f.before f.after,
-        total-split g k f.after,
-      ))
+  past_file-keeps true a k s = put_file-keeps a _ _ s (λ g. omega (arith, removed-total g (file_of s a) k))
+  past_file-keeps false a k s = put_file-keeps a _ _ s (λ g. omega (arith, passed-total g (file_of s a) k))
 
   past-by-keeps : (v : Var) (a : Arg) (k : ℕ) (s : Store) → Faultless ins s → Enough ins v s a k → Keeps ins s (past_by v a k s)
   unfolding past_by with_places

@@ -1,13 +1,13 @@
 -- What every limit counts, after one expression, file or output is replaced: each rests on `total-set`, the one fact over the index.
-use Rattle.std.specs.Prelude.{◌≡◌, ℕ, zero, suc, pred, ◌+◌, ◌-◌, ◌≤◌, ◌<◌, T, leb, length, get_or, set}
+use Rattle.std.specs.Prelude.{◌≡◌, ℕ, zero, suc, pred, ◌+◌, ◌-◌, ◌≤◌, ◌<◌, T, leb, length, get_or, take, drop, set}
 use Rattle.std.proofs.Math.Path.{refl}
 use mathlib.Core.List.{List, [], ◌∷◌, ◌++◌}
 use native.Mathlib.Omega.{arith}
 use Rattle.language.specs.Below.Lists.{total, all}
-use Rattle.language.specs.Below.ListLaws.{total-set, all_set}
+use Rattle.language.specs.Below.ListLaws.{total-append, total-split, total-set, all_set}
 use Rattle.language.specs.Limits as limit
 use Rattle.language.specs.Program.{Arg}
-use Rattle.language.specs.Values.{Component, Record, Store, empty_file}
+use Rattle.language.specs.Values.{Component, Record, File, Store, empty_file}
 use Rattle.machine.specs.Arguments.{place, expr, file_of, records}
 use Rattle.machine.specs.Changes.{with_exprs, with_files, put, put_expr, put_file, held, recorded}
 use Rattle.machine.specs.WellFormed.{overrun}
@@ -46,6 +46,21 @@ module _ (a : Arg) (s : Store) where
   outputs-put w h l = all_set (λ q. leb (length q) limit.output) [] s.outputs (pred (place a)) w h l
 
 -- Read places: the same, of two lists side by side
+
+-- a file without the first k records after its pointer, and with the pointer behind them
+pub removed-total : (g : Record → ℕ) (f : File) (k : ℕ) → total g (f.before ++ drop k f.after) + total g (take k f.after) ≡ total g (records f)
+removed-total g f k =
+    omega (arith, total-append g f.before (drop k f.after), total-append g f.before f.after, total-split g k f.after)
+
+pub passed-total : (g : Record → ℕ) (f : File) (k : ℕ) → total g ((f.before ++ take k f.after) ++ drop k f.after) ≡ total g (records f)
+passed-total g f k =
+    omega (
+      arith,
+      total-append g (f.before ++ take k f.after) (drop k f.after),
+      total-append g f.before (take k f.after),
+      total-append g f.before f.after,
+      total-split g k f.after,
+    )
 
 pub overrun-set : (ns : List ℕ) (ws : List (List ℕ)) (i m : ℕ) → overrun (set ns i m) ws ≤ overrun ns ws + (m - length (get_or ws i []))
 overrun-set [] ws i m = omega arith

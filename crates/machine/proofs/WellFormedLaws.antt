@@ -2,8 +2,9 @@
 use Rattle.std.specs.Prelude.{◌≡◌, refl, Bool, ◌&&◌, List, [], ◌∷◌, ℕ, zero, suc, ◌≤◌, ◌<◌, eqb, drop}
 use Rattle.std.proofs.Common.{arith, le→leb, lt→ltb}
 use Rattle.std.proofs.Math.Decide.{dec_le}
-use Rattle.std.proofs.Math.Dec.{T, leb, ltb, leb→le, ltb→lt, eqb→eq, eqb_refl}
+use Rattle.std.proofs.Math.Dec.{T, leb, ltb, leb→le, ltb→lt, eqb→eq}
 use Rattle.std.proofs.Math.ListN.{length}
+use Rattle.std.proofs.Math.Facts.{yes_eqb}
 use Rattle.language.specs.Below.Lists.{total, all}
 use Rattle.language.specs.Below.ListLaws.{T-left, T-right, T-both, part, Passed, parts, all_head, all_tail, none-fail}
 use Rattle.language.specs.Below.Characters.{known}
@@ -128,13 +129,10 @@ module _ (ins : Inputs) (s : Store) where
   pub shut-store : StoreFacts ins s → T (good_store ins s)
   unfolding good_store
   shut-store f =
-      let records-parts : Passed (drop 6 (store_tests ins s)) = (same f.sound.no_faults, (within, (once-different (addresses s) once, tt))) in
+      let records-parts : Passed (drop 6 (store_tests ins s)) = (yes_eqb f.sound.no_faults, (within, (once-different (addresses s) once, tt))) in
       let limits-parts : Passed (drop 4 (store_tests ins s)) = (f.limits, (le→leb s.last limit.addresses f.given, records-parts)) in
-      parts (store_tests ins s) (same f.exprs, (same f.files, (same f.outputs, (same f.places, limits-parts))))
+      parts (store_tests ins s) (yes_eqb f.exprs, (yes_eqb f.files, (yes_eqb f.outputs, (yes_eqb f.places, limits-parts))))
     where
-      same : {m n : ℕ} → m ≡ n → T (eqb m n)
-      same {m} {n} e = rw e (eqb_refl n)
-
       positive : (n : ℕ) → 1 ≤ times n s → 0 < n
       positive zero k = absurd (omega (arith, f.sound.from_1))
       positive (suc n) k = omega arith

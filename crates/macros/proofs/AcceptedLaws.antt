@@ -1,7 +1,9 @@
 -- A text that 14, 15 and 64 let pass is made of clean pieces, so that its written_out text has no macros.
 use Rattle.std.specs.Prelude.{◌≡◌, refl, Bool, true, false, cond, not, ◌&&◌, ◌||◌, List, [], ◌∷◌, ◌++◌, map, ℕ, zero, suc, ◌+◌, T, eqb, length, get_or, take, drop}
-use Rattle.std.proofs.Common.{ap, sym, subst, ◌∙◌, true≢false, append_assoc, arith}
-use Rattle.std.proofs.lemmas.Bool.{false≢true}
+use Rattle.std.proofs.Common.{ap, sym, subst, ◌∙◌, true≢false, append_assoc, arith, eqb-true}
+use Rattle.std.proofs.lemmas.Bool.{or_parts}
+use lib.Ieee.Bits.{is_false}
+use Rattle.std.specs.Bool.{passes as truth}
 use Rattle.syntax.specs.Below.Program.{identifier}
 use Rattle.syntax.specs.Below.Lists.{ahead, all, any, among, each, filled, head_or, if_any, joined, keep}
 use Rattle.syntax.specs.Below.ListLaws.{T-left, T-right, T-both}
@@ -11,7 +13,7 @@ use Rattle.syntax.specs.Items.Sort.{separator, word, colon, end, text, wrong}
 use Rattle.syntax.specs.Verdict.{Question, Verdict, first_no}
 use Rattle.syntax.specs.Verdict.Verdict.{yes, refuse}
 use Rattle.macros.specs.Marks.{byte_at, has_macros, items_in, whole_questions}
-use Rattle.macros.specs.Elements.{Element, end_of, is_word, is_end, is_mark, is_star, is_open, is_close, is_bracket, is_identifier, places_in, elements, until, from, stretches}
+use Rattle.macros.specs.Elements.{Element, is_word, is_end, is_mark, is_star, is_open, is_close, is_bracket, is_identifier, places_in, elements, until, from, stretches}
 use Rattle.macros.specs.Pieces.{Piece, Change, word_changes, call_changes, stretch_changes, changes, section_changes, pieces_from, joins_well, is_stray, is_misplaced, called_faults, form_faults}
 use Rattle.macros.specs.Macros.{Macro, has_body, from_statement, first_statement, behind_first, from_list, section, header, header_words, body_of, body_start, body_stop, macro_of, macros_in, definition_faults, ending_faults, place_faults, macro_list_faults, list_change, section_pieces}
 use Rattle.macros.specs.Expansion.{places_of}
@@ -19,10 +21,11 @@ use Rattle.macros.specs.Prepared.{all_faults, listed, section_of, bytes_out, pla
 use Rattle.macros.specs.Prepared.Prepared.{ready}
 use Rattle.macros.specs.Cleanness.{clean_piece, clean_macro}
 use Rattle.macros.proofs.PlaceLaws.{joined-stretches, ends_with, Ended, stretches-end}
+use Rattle.macros.proofs.SortLaws.{mark-sort}
 use Rattle.macros.proofs.OrderLaws.{ends-behind}
 use Rattle.macros.proofs.ShapeLaws.{yes-behind, yes-none}
-use Rattle.macros.proofs.PlainLaws.{equal, pieces-plain}
-use Rattle.macros.proofs.TileLaws.{Gap, gap-none, gap-joined, edge, past, Tile, Tiled, passes, truth, elements-tile}
+use Rattle.macros.proofs.PlainLaws.{pieces-plain}
+use Rattle.macros.proofs.TileLaws.{Gap, gap-none, gap-joined, edge, past, Tile, Tiled, passes, elements-tile}
 use Rattle.macros.proofs.CoverLaws.{Cut, cut-tiles, Somewhere, tiled-right, solid, Skipped, skip, AllOnly, stretches-only, only-drop, only-from, ends_found, Clean, change-clean, last-clean, Last, call-clean, stays, words-clean}
 
 -- Lists
@@ -57,21 +60,17 @@ none-among : (b : ℕ) → eqb 42 b ≡ false → eqb 40 b ≡ false → eqb 41 
 none-among b h i j k = go (eqb b 42) refl (eqb b 40) refl (eqb b 41) refl (eqb b 39) refl
   where
     go : (v : Bool) → eqb b 42 ≡ v → (x : Bool) → eqb b 40 ≡ x → (y : Bool) → eqb b 41 ≡ y → (z : Bool) → eqb b 39 ≡ z → T (v || (x || (y || (z || false)))) → ⊥
-    go true e x f y g z l t = true≢false (rw (equal b 42 e) at h)
-    go false e true f y g z l t = true≢false (rw (equal b 40 f) at i)
-    go false e false f true g z l t = true≢false (rw (equal b 41 g) at j)
-    go false e false f false g true l t = true≢false (rw (equal b 39 l) at k)
+    go true e x f y g z l t = true≢false (rw (eqb-true b 42 e) at h)
+    go false e true f y g z l t = true≢false (rw (eqb-true b 40 f) at i)
+    go false e false f true g z l t = true≢false (rw (eqb-true b 41 g) at j)
+    go false e false f false g true l t = true≢false (rw (eqb-true b 39 l) at k)
     go false e false f false g false l t = t
-
-pub neither : (a b : Bool) → (a || b) ≡ false → (a ≡ false) × (b ≡ false)
-neither true b h = absurd (true≢false h)
-neither false b h = (refl, h)
 
 stay : (s : List ℕ) (ps : List (List ℕ)) (t : Element) → Tile s t → is_star t ≡ false → is_stray ps t ≡ false → T (stays ps t)
 stay s ps t k a b = go (same_sort wrong t.sort) refl a parts.0 k.mark
   where
     parts : ((is_bracket t || is_mark 39 t) ≡ false) × (not (joins_well ps t) ≡ false)
-    parts = neither (is_bracket t || is_mark 39 t) (not (joins_well ps t)) b
+    parts = or_parts (is_bracket t || is_mark 39 t) (not (joins_well ps t)) b
 
     well : (c : Bool) → not c ≡ false → T c
     well true e = tt
@@ -81,8 +80,8 @@ stay s ps t k a b = go (same_sort wrong t.sort) refl a parts.0 k.mark
         → (((w && eqb 40 t.byte) || (w && eqb 41 t.byte)) || (w && eqb 39 t.byte)) ≡ false
         → (w ≡ true → T (among t.byte (bytes "*()'"))) → T (not w && joins_well ps t)
     go true e f g m =
-        let one = neither (eqb 40 t.byte || eqb 41 t.byte) (eqb 39 t.byte) g in
-        let two = neither (eqb 40 t.byte) (eqb 41 t.byte) one.0 in
+        let one = or_parts (eqb 40 t.byte || eqb 41 t.byte) (eqb 39 t.byte) g in
+        let two = or_parts (eqb 40 t.byte) (eqb 41 t.byte) one.0 in
         absurd (none-among t.byte f two.0 two.1 one.1 (m refl))
     go false e f g m = well (joins_well ps t) parts.1
 
@@ -98,12 +97,8 @@ all_stay : (s : List ℕ) (ps : List (List ℕ)) (q : Element → Bool) → ((t 
 all_stay s ps q f hi lo [] us a e h = tt
 all_stay s ps q f hi lo (t ∷ ts) us a e h =
     let k = kept-none q t ts e in
-    T-both (stays ps t) (all (stays ps) ts) (stay s ps t h.1 (untrue (is_star t) (T-left (not (is_star t)) (all (λ u. not (is_star u)) ts) a)) (f t k.0))
+    T-both (stays ps t) (all (stays ps) ts) (stay s ps t h.1 (is_false (is_star t) (T-left (not (is_star t)) (all (λ u. not (is_star u)) ts) a)) (f t k.0))
     (all_stay s ps q f hi (past t) ts us (T-right (not (is_star t)) (all (λ u. not (is_star u)) ts) a) k.1 h.2)
-  where
-    untrue : (b : Bool) → T (not b) → b ≡ false
-    untrue true z = absurd z
-    untrue false z = refl
 
 stay-solid : (t : Element) → T (stays [] t) → T (solid t)
 stay-solid t h = go (not (same_sort wrong t.sort)) t.joined (is_word t) h
@@ -199,17 +194,7 @@ section-clean s hi place lo (x ∷ ys) e o z g h =
 
 mark-past : (t : Element) (b : ℕ) → is_mark b t ≡ true → past t ≡ t.at + 1
 unfolding edge
-mark-past t b h = go t.sort (eqb b t.byte) h
-  where
-    go : (k : Sort) (c : Bool) → (same_sort wrong k && c) ≡ true
-        → cond (same_sort word k) (if_any (cond (same_sort word k || same_sort text k) (end_of t) (t.at + 1)) (λ w. cond (same_sort word k || same_sort text k) (end_of t) (t.at + 1) + 1 + length w) t.joined)
-        (cond (same_sort word k || same_sort text k) (end_of t) (t.at + 1)) ≡ t.at + 1
-    go separator c e = absurd (false≢true e)
-    go word c e = absurd (false≢true e)
-    go colon c e = absurd (false≢true e)
-    go end c e = absurd (false≢true e)
-    go text c e = absurd (false≢true e)
-    go wrong c e = refl
+mark-past t b h = rw (mark-sort b t h) refl
 
 any_found : (p : Element → Bool) (x : List Element) → T (any p x) → from p x ≡ [] → ⊥
 any_found p [] h e = h
@@ -219,7 +204,7 @@ any_found p (t ∷ ts) h e = go (p t) h (any_found p ts) e
     go true z f k = let q : ◌≡◌ {A = ℕ} 0 1 = cc in omega arith
     go false z f k = f z k
 
-found-has : (p : Element → Bool) (x : List Element) (t : Element) (bs : List Element) → from p x ≡ t ∷ bs → p t ≡ true
+pub found-has : (p : Element → Bool) (x : List Element) (t : Element) (bs : List Element) → from p x ≡ t ∷ bs → p t ≡ true
 found-has p [] t bs e = absurd (let q : ◌≡◌ {A = ℕ} 0 1 = cc in omega arith)
 found-has p (u ∷ us) t bs e = go (p u) refl (found-has p us t bs) e
   where
@@ -228,7 +213,7 @@ found-has p (u ∷ us) t bs e = go (p u) refl (found-has p us t bs) e
     go false z f k = f k
 
 pub stray-of : (ps : List (List ℕ)) (t : Element) → is_misplaced ps t ≡ false → is_stray ps t ≡ false
-stray-of ps t h = (neither (is_stray ps t) _ h).0
+stray-of ps t h = (or_parts (is_stray ps t) _ h).0
 
 loop-clean : (s : List ℕ) (ps : List (List ℕ)) (hi lo : ℕ) (ts : List Element) → form_faults (is_misplaced ps) ps ts ≡ [] → Tiled s hi lo ts → Clean (pieces_from s lo hi (changes ps hi ts))
 unfolding form_faults
@@ -325,11 +310,11 @@ unfolding at_fault
 no-stars [] h = tt
 no-stars (t ∷ ts) h =
     let k = kept-none at_fault t ts h in
-    T-both (not (is_star t)) (all (λ u. not (is_star u)) ts) (rw (neither (is_star t) (is_stray [] t) k.0).0 tt) (no-stars ts k.1)
+    T-both (not (is_star t)) (all (λ u. not (is_star u)) ts) (rw (or_parts (is_star t) (is_stray [] t) k.0).0 tt) (no-stars ts k.1)
 
 not-stray : (t : Element) → at_fault t ≡ false → is_stray [] t ≡ false
 unfolding at_fault
-not-stray t h = (neither (is_star t) (is_stray [] t) h).1
+not-stray t h = (or_parts (is_star t) (is_stray [] t) h).1
 
 halves : (s : List ℕ) (p : Element → Bool) (hi lo : ℕ) (x : List Element) → Tiled s hi lo x → Tiled s hi lo (until p x ++ from p x)
 halves s p hi lo x h = subst (λ (ts : List Element). Tiled s hi lo ts) (sym (split p x)) h
@@ -406,6 +391,20 @@ ending-closed t us h =
     go true b e = tt
     go false b e = absurd (let q : ◌≡◌ {A = ℕ} 0 1 = cc in omega arith)
 
+-- a list of macros without a fault: none in its definitions, none at its end, and what stands before its first element
+list-opens : (s : List ℕ) (ts : List Element) (t : Element) (us : List Element) → from_list ts ≡ t ∷ us
+    → ((places_in (keep at_fault (first_statement ts)) ++ places_in (keep (λ u. not (is_end u)) (take 1 (section ts))))
+    ++ each definition_faults (until ends_list (stretches is_close us))) ++ ending_of (t ∷ us) ≡ []
+    → Tiled s (length s) 0 ts → (each definition_faults (until ends_list (stretches is_close us)) ≡ []) × (ending_of (t ∷ us) ≡ []) × Skipped s (length s) 0 (t ∷ us)
+list-opens s ts t us e f h =
+    let first = places_in (keep at_fault (first_statement ts)) in
+    let second = places_in (keep (λ u. not (is_end u)) (take 1 (section ts))) in
+    let xs = stretches is_close us in
+    let all_but = none_both ((first ++ second) ++ each definition_faults (until ends_list xs)) (ending_of (t ∷ us)) f in
+    let lists = none_both (first ++ second) (each definition_faults (until ends_list xs)) all_but.0 in
+    let before = lead s (length s) ts (none_both first second lists.0).0 h in
+    (lists.1, all_but.1, subst (λ (vs : List Element). Skipped s (length s) 0 vs) (list_is (behind_first ts) t us e).0 before)
+
 section-fine : (s : List ℕ) (ts : List Element) → macro_list_faults ts ≡ [] → form_faults (is_stray []) [] (section ts) ≡ [] → Tiled s (length s) 0 ts → Clean (section_pieces s ts)
 unfolding macro_list_faults place_faults ending_faults list_change at_fault
 section-fine s ts y z h = go (from_list ts) refl y z
@@ -419,18 +418,13 @@ section-fine s ts y z h = go (from_list ts) refl y z
         ++ section_changes (length s) (cond (filled (take 1 fl)) (joined (drop 1 (from ends_list (stretches is_close (drop 1 fl))))) ts)))
     go [] e f k = calls-clean s (length s) 0 ts k h
     go (t ∷ us) e f k =
-        let first = places_in (keep at_fault (first_statement ts)) in
-        let second = places_in (keep (λ u. not (is_end u)) (take 1 (section ts))) in
         let xs = stretches is_close us in
-        let all_but = none_both ((first ++ second) ++ each definition_faults (until ends_list xs)) (ending_of (t ∷ us)) f in
-        let lists = none_both (first ++ second) (each definition_faults (until ends_list xs)) all_but.0 in
-        let starts = none_both first second lists.0 in
-        let before = lead s (length s) ts starts.0 h in
-        let here = subst (λ (vs : List Element). Tiled s (length s) before.0 vs) (list_is (behind_first ts) t us e).0 before.2 in
+        let (lists, ending, before) = list-opens s ts t us e f h in
+        let here = before.2 in
         let inside = drop-tiles s (length s) (past t) (ahead ends_list xs) xs (rw (joined-stretches is_close us) here.2) in
         change-clean s (length s) 0 (record { start = t.at; stop = stops_at (length s) (from ends_list xs); pieces = [] })
         (section_changes (length s) (joined (drop 1 (from ends_list xs)))) (gap-joined s 0 before.0 t.at before.1 here.0) tt
-        (after_list s (length s) inside.0 (from ends_list xs) (ending-closed t us all_but.1) (drop-only is_close (ahead ends_list xs) xs (stretches-only is_close us)) k inside.1)
+        (after_list s (length s) inside.0 (from ends_list xs) (ending-closed t us ending) (drop-only is_close (ahead ends_list xs) xs (stretches-only is_close us)) k inside.1)
 
 macros-fine : (s : List ℕ) (ts : List Element) → macro_list_faults ts ≡ [] → Tiled s (length s) 0 ts → T (all clean_macro (macros_in s ts))
 unfolding macro_list_faults place_faults ending_faults macros_in at_fault stretches
@@ -442,15 +436,8 @@ macros-fine s ts y h = go (from_list ts) refl y
         → T (all clean_macro (each (macro_of s) (until ends_list (stretches is_close (drop 1 fl)))))
     go [] e f = tt
     go (t ∷ us) e f =
-        let first = places_in (keep at_fault (first_statement ts)) in
-        let second = places_in (keep (λ u. not (is_end u)) (take 1 (section ts))) in
-        let xs = stretches is_close us in
-        let all_but = none_both ((first ++ second) ++ each definition_faults (until ends_list xs)) (ending_of (t ∷ us)) f in
-        let lists = none_both (first ++ second) (each definition_faults (until ends_list xs)) all_but.0 in
-        let starts = none_both first second lists.0 in
-        let before = lead s (length s) ts starts.0 h in
-        let here = subst (λ (vs : List Element). Tiled s (length s) before.0 vs) (list_is (behind_first ts) t us e).0 before.2 in
-        definitions-clean s (past t) xs lists.1 (rw (joined-stretches is_close us) here.2)
+        let (lists, ending, before) = list-opens s ts t us e f h in
+        definitions-clean s (past t) (stretches is_close us) lists (rw (joined-stretches is_close us) before.2.2)
 
 -- 14 and 15 let the items pass
 

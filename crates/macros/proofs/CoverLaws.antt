@@ -1,21 +1,23 @@
 -- The pieces between changes are clean: what stands outside calls are words, texts, marks of statements and gaps.
-use Rattle.std.specs.Prelude.{◌≡◌, Bool, not, ◌&&◌, ◌||◌, ℕ, zero, suc, ◌+◌, ◌-◌, eqb, length, take, drop}
+use Rattle.std.specs.Prelude.{◌≡◌, Bool, not, ◌&&◌, ℕ, zero, suc, ◌+◌, ◌-◌, eqb, length, take, drop}
 use Rattle.std.proofs.Math.Path.{refl}
 use Rattle.std.proofs.Common.{sym, subst, true≢false, arith}
 use Rattle.std.proofs.Math.Bool.{true, false, cond}
-use Rattle.std.proofs.lemmas.Bool.{false≢true}
+use Rattle.std.proofs.lemmas.Bool.{and_parts}
 use mathlib.Core.List.{List, [], ◌∷◌, ◌++◌, map, append_assoc}
 use Rattle.std.proofs.Math.Dec.{T}
+use lib.Ieee.Bits.{is_false}
 use Rattle.syntax.specs.Below.Program.{identifier}
 use Rattle.syntax.specs.Below.Lists.{ahead, all, each, filled, if_any, joined}
 use Rattle.syntax.specs.Below.ListLaws.{T-left, T-right, T-both}
-use Rattle.syntax.specs.Items.{Sort, same_sort}
-use Rattle.syntax.specs.Items.Sort.{separator, word, colon, end, text, wrong}
+use Rattle.syntax.specs.Items.{same_sort}
+use Rattle.syntax.specs.Items.Sort.{end, wrong}
 use Rattle.macros.specs.Elements.{Element, end_of, is_word, is_end, until, from, cut_off, stretches}
 use Rattle.macros.specs.Pieces.{Piece, Change, given_of, is_parameter, number_of, call_faults, call_of, word_changes, call_stop, call_changes, pieces_from, joins_well}
 use Rattle.macros.specs.Pieces.Given.{typed, parameter, joined as joined_to}
 use Rattle.macros.specs.Pieces.Piece.{value, called}
 use Rattle.macros.specs.Cleanness.{clean, clean_given, clean_piece}
+use Rattle.syntax.proofs.SortLaws.{same-sort}
 use Rattle.macros.proofs.PlaceLaws.{ends_with}
 use Rattle.macros.proofs.TileLaws.{Gap, gap-none, gap-joined, gap-taken, edge, past, Tile, Tiled}
 
@@ -59,12 +61,8 @@ solid t = not (same_sort wrong t.sort) && not (is_word t && filled t.joined)
 solid-gap : (s : List ℕ) (t : Element) → Tile s t → T (solid t) → Gap s t.at (past t)
 solid-gap s t k h =
     rw (unjoined (is_word t) t.joined (T-right (not (same_sort wrong t.sort)) (not (is_word t && filled t.joined)) h))
-    (k.gap (not-true (same_sort wrong t.sort) (T-left (not (same_sort wrong t.sort)) (not (is_word t && filled t.joined)) h)))
+    (k.gap (is_false (same_sort wrong t.sort) (T-left (not (same_sort wrong t.sort)) (not (is_word t && filled t.joined)) h)))
   where
-    not-true : (a : Bool) → T (not a) → a ≡ false
-    not-true true z = absurd z
-    not-true false z = refl
-
     unjoined : (a : Bool) (ws : List (List ℕ)) → T (not (a && filled ws)) → cond a (if_any (edge t) (λ w. edge t + 1 + length w) ws) (edge t) ≡ edge t
     unjoined true [] z = refl
     unjoined true (w ∷ ws) z = absurd z
@@ -188,17 +186,7 @@ last-clean s hi place g = T-both (clean (take (hi - place) (drop place s))) true
 
 end-sort : (t : Element) → is_end t ≡ true → (same_sort wrong t.sort ≡ false) × (past t ≡ t.at + 1)
 unfolding edge
-end-sort t h = go t.sort h
-  where
-    go : (k : Sort) → same_sort end k ≡ true → (same_sort wrong k ≡ false)
-        × (cond (same_sort word k) (if_any (cond (same_sort word k || same_sort text k) (end_of t) (t.at + 1)) (λ w. cond (same_sort word k || same_sort text k) (end_of t) (t.at + 1) + 1 + length w) t.joined)
-        (cond (same_sort word k || same_sort text k) (end_of t) (t.at + 1)) ≡ t.at + 1)
-    go separator e = absurd (false≢true e)
-    go word e = absurd (false≢true e)
-    go colon e = absurd (false≢true e)
-    go end e = (refl, refl)
-    go text e = absurd (false≢true e)
-    go wrong e = absurd (false≢true e)
+end-sort t h = rw (same-sort end t.sort h) (refl, refl)
 
 -- the first element with p has p
 from-has : (p : Element → Bool) (x : List Element) → T (all p (take 1 (from p x)))
@@ -211,15 +199,7 @@ from-has p (t ∷ ts) = go (p t) refl (from-has p ts)
 
 end-edge : (t : Element) → is_end t ≡ true → edge t ≡ t.at + 1
 unfolding edge
-end-edge t h = go t.sort h
-  where
-    go : (k : Sort) → same_sort end k ≡ true → cond (same_sort word k || same_sort text k) (end_of t) (t.at + 1) ≡ t.at + 1
-    go separator e = absurd (false≢true e)
-    go word e = absurd (false≢true e)
-    go colon e = absurd (false≢true e)
-    go end e = refl
-    go text e = absurd (false≢true e)
-    go wrong e = absurd (false≢true e)
+end-edge t h = rw (same-sort end t.sort h) refl
 
 -- a call takes all up to the end of its stretch; it may lack one only in the last
 abbrev pub Last : List Element → List Change → Type 0
@@ -274,10 +254,6 @@ module _ (s : List ℕ) (ps : List (List ℕ)) (hi : ℕ) (us : List Element) (c
 abbrev pub stays : List (List ℕ) → Element → Bool
 stays ps t = not (same_sort wrong t.sort) && joins_well ps t
 
-unwrong : (a : Bool) → T (not a) → a ≡ false
-unwrong true z = absurd z
-unwrong false z = refl
-
 word-past : (t : Element) → is_word t ≡ true → t.joined ≡ [] → past t ≡ end_of t
 unfolding edge
 word-past t h e = rw (h, e) refl
@@ -298,10 +274,6 @@ word_end : (t : Element) → is_word t ≡ true → edge t ≡ end_of t
 unfolding edge
 word_end t h = rw h refl
 
-first-true : (a b : Bool) → (a && b) ≡ true → a ≡ true
-first-true true b h = refl
-first-true false b h = absurd (false≢true h)
-
 joined_word : (ps : List (List ℕ)) (t : Element) (w : List ℕ) (ws : List (List ℕ)) → t.joined ≡ w ∷ ws → T (joins_well ps t) → is_word t ≡ true
 joined_word ps t w ws e h = go (is_word t) (rw e at h)
   where
@@ -321,7 +293,7 @@ module _ (s : List ℕ) (ps : List (List ℕ)) (hi : ℕ) (us : List Element) (c
   word-clean place t ds k h g f = go t.joined refl (is_word t && is_parameter ps t.typed) refl
     where
       gap : Gap s t.at (edge t)
-      gap = k.gap (unwrong (same_sort wrong t.sort) (T-left (not (same_sort wrong t.sort)) (joins_well ps t) h))
+      gap = k.gap (is_false (same_sort wrong t.sort) (T-left (not (same_sort wrong t.sort)) (joins_well ps t) h))
 
       go : (ws : List (List ℕ)) → t.joined ≡ ws → (b : Bool) → (is_word t && is_parameter ps t.typed) ≡ b
           → Clean (pieces_from s place hi (if_any
@@ -329,7 +301,7 @@ module _ (s : List ℕ) (ps : List (List ℕ)) (hi : ℕ) (us : List Element) (c
           (λ w. record { start = end_of t; stop = end_of t + 1 + length w; pieces = value (number_of ps w) ∷ [] } ∷ []) ws ++ ds))
       go [] e true b =
           change-clean s hi place (record { start = t.at; stop = end_of t; pieces = value (number_of ps t.typed) ∷ [] }) ds g (value-clean (number_of ps t.typed))
-          (f (end_of t) (rw (word-past t (first-true (is_word t) (is_parameter ps t.typed) b) e) (gap-none s (end_of t))))
+          (f (end_of t) (rw (word-past t (and_parts (is_word t) (is_parameter ps t.typed) b).0 e) (gap-none s (end_of t))))
       go [] e false b = f place (rw (alone-past t e) (gap-joined s place t.at (edge t) g gap))
       go (w ∷ ws) e b c =
           let is = joined_word ps t w ws e (T-right (not (same_sort wrong t.sort)) (joins_well ps t) h) in

@@ -1,6 +1,9 @@
 -- Nothing that a macro of an accepted text may write by a parameter is empty: the premise of `loud-writes`.
-use Rattle.std.specs.Prelude.{◌≡◌, refl, Bool, true, false, cond, not, ◌&&◌, ◌||◌, List, [], ◌∷◌, ◌++◌, map, ℕ, zero, suc, ◌+◌, ◌<◌, T, eqb, ltb, length, take, drop}
-use Rattle.std.proofs.Common.{true≢false, arith, lt→ltb}
+use Rattle.std.specs.Prelude.{◌≡◌, refl, Bool, true, false, cond, not, ◌&&◌, ◌||◌, List, [], ◌∷◌, ◌++◌, map, ℕ, zero, suc, ◌+◌, T, eqb, ltb, length, take, drop}
+use Rattle.std.proofs.Common.{true≢false, lt→ltb}
+use Rattle.std.proofs.lemmas.Bool.{or_parts}
+use Rattle.lists.specs.SearchLaws.{ahead-below}
+use Rattle.lists.specs.AppendLaws.{all_append, all_left, all_right}
 use Rattle.syntax.specs.Below.Program.{identifier}
 use Rattle.syntax.specs.Below.LanguageValues.{numeral}
 use Rattle.syntax.specs.Below.Lists.{ahead, all, any, each, filled, if_any, joined, keep, bytes_equal}
@@ -17,23 +20,11 @@ use Rattle.macros.specs.Prepared.{listed, macro_questions}
 use Rattle.macros.specs.Silence.{full_given, full_piece, full_macro}
 use Rattle.macros.proofs.PlaceLaws.{joined-stretches}
 use Rattle.macros.proofs.TileLaws.{past, Tiled}
-use Rattle.macros.proofs.AcceptedLaws.{none_both, neither, kept-none, form_of, ends_list, stray-of, body_pieces, accepted-fine}
+use Rattle.macros.proofs.AcceptedLaws.{none_both, kept-none, form_of, ends_list, stray-of, body_pieces, accepted-fine}
 
 -- Lists
 
 module _ {X : Type 0} (p : X → Bool) where
-  pub all-joined : (xs ys : List X) → T (all p xs) → T (all p ys) → T (all p (xs ++ ys))
-  all-joined [] ys h k = k
-  all-joined (x ∷ xs) ys h k = T-both (p x) (all p (xs ++ ys)) (T-left (p x) (all p xs) h) (all-joined xs ys (T-right (p x) (all p xs) h) k)
-
-  pub all_left : (xs ys : List X) → T (all p (xs ++ ys)) → T (all p xs)
-  all_left [] ys h = tt
-  all_left (x ∷ xs) ys h = T-both (p x) (all p xs) (T-left (p x) (all p (xs ++ ys)) h) (all_left xs ys (T-right (p x) (all p (xs ++ ys)) h))
-
-  pub all_right : (xs ys : List X) → T (all p (xs ++ ys)) → T (all p ys)
-  all_right [] ys h = h
-  all_right (x ∷ xs) ys h = all_right xs ys (T-right (p x) (all p (xs ++ ys)) h)
-
   pub all_take : (k : ℕ) (xs : List X) → T (all p xs) → T (all p (take k xs))
   all_take zero xs h = tt
   all_take (suc k) [] h = tt
@@ -43,14 +34,6 @@ module _ {X : Type 0} (p : X → Bool) where
   all_drop zero xs h = h
   all_drop (suc k) [] h = tt
   all_drop (suc k) (x ∷ xs) h = all_drop k xs (T-right (p x) (all p xs) h)
-
-  ahead-below : (xs : List X) → T (any p xs) → ahead p xs < length xs
-  ahead-below [] h = absurd h
-  ahead-below (x ∷ xs) h = go (p x) h (ahead-below xs)
-    where
-      go : (b : Bool) → T (b || any p xs) → (T (any p xs) → ahead p xs < length xs) → elim b [ true ↦ 0 | false ↦ suc (ahead p xs) ] < suc (length xs)
-      go true z f = omega arith
-      go false z f = let l = f z in omega arith
 
 -- a parameter's number is in range
 in_range : (ps : List (List ℕ)) (w : List ℕ) → T (is_parameter ps w) → T (ltb (number_of ps w) (length ps))
@@ -142,8 +125,8 @@ words-full : (ps : List (List ℕ)) (ts : List Element) → places_in (keep (is_
 words-full ps [] e = tt
 words-full ps (t ∷ ts) e =
     let k = kept-none (is_misplaced ps) t ts e in
-    all-joined (full_change (length ps)) (word_changes ps t) (each (word_changes ps) ts)
-    (word-full ps t (well (joins_well ps t) (neither (is_bracket t || is_mark 39 t) (not (joins_well ps t)) (stray-of ps t k.0)).1)) (words-full ps ts k.1)
+    all_append (full_change (length ps)) (word_changes ps t) (each (word_changes ps) ts)
+    (word-full ps t (well (joins_well ps t) (or_parts (is_bracket t || is_mark 39 t) (not (joins_well ps t)) (stray-of ps t k.0)).1)) (words-full ps ts k.1)
   where
     well : (c : Bool) → not c ≡ false → T c
     well true z = tt
@@ -156,8 +139,8 @@ stretches-full ps stop [] h e = tt
 stretches-full ps stop (x ∷ xs) h e =
     let both = none_both (form_of (is_misplaced ps) ps x) (each (form_of (is_misplaced ps) ps) xs) e in
     let parts = none_both (places_in (keep (is_misplaced ps) (until is_star x))) (called_faults ps (from is_star x)) both.0 in
-    all-joined (full_change (length ps)) (each (word_changes ps) (until is_star x) ++ call_changes ps stop (from is_star x)) (each (stretch_changes ps stop) xs)
-    (all-joined (full_change (length ps)) (each (word_changes ps) (until is_star x)) (call_changes ps stop (from is_star x)) (words-full ps (until is_star x) parts.0)
+    all_append (full_change (length ps)) (each (word_changes ps) (until is_star x) ++ call_changes ps stop (from is_star x)) (each (stretch_changes ps stop) xs)
+    (all_append (full_change (length ps)) (each (word_changes ps) (until is_star x)) (call_changes ps stop (from is_star x)) (words-full ps (until is_star x) parts.0)
     (call-full ps stop (from is_star x) (all_drop typed_full (ahead is_star x) x (all_left typed_full x (joined xs) h)) parts.1))
     (stretches-full ps stop xs (all_right typed_full x (joined xs) h) both.1)
 
@@ -165,7 +148,7 @@ pieces-full : (n : ℕ) (s : List ℕ) (place stop : ℕ) (cs : List Change) →
 unfolding pieces_from full_piece
 pieces-full n s place stop [] h = tt
 pieces-full n s place stop (c ∷ cs) h =
-    all-joined (full_piece n) c.pieces (pieces_from s c.stop stop cs) (T-left (full_change n c) (all (full_change n) cs) h)
+    all_append (full_piece n) c.pieces (pieces_from s c.stop stop cs) (T-left (full_change n c) (all (full_change n) cs) h)
     (pieces-full n s c.stop stop cs (T-right (full_change n c) (all (full_change n) cs) h))
 
 -- Macros
@@ -203,7 +186,7 @@ definitions-full s (x ∷ xs) h z = go (has_body x) z (λ k. definitions-full s 
         → T (all full_macro (each (macro_of s) (take (elim (not b) [ true ↦ 0 | false ↦ suc (ahead ends_list xs) ]) (x ∷ xs))))
     go true k f =
         let parts = none_both (definition_faults x) (each definition_faults (until ends_list xs)) k in
-        all-joined full_macro (macro_of s x) (each (macro_of s) (until ends_list xs))
+        all_append full_macro (macro_of s x) (each (macro_of s) (until ends_list xs))
         (definition-full s x (body-full s x (all_left typed_full x (joined xs) h) parts.0)) (f parts.1)
     go false k f = tt
 

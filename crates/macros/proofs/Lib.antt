@@ -8,6 +8,7 @@ pub mod ShapeLaws
 pub mod WrittenLaws
 pub mod StepLaws
 pub mod CleanLaws
+pub mod SortLaws
 pub mod PlainLaws
 pub mod TileLaws
 pub mod CoverLaws

@@ -5,6 +5,7 @@ use Rattle.std.proofs.Common.{add-one, arith, length-take, take_all}
 use Rattle.syntax.specs.Below.Lists.{keep}
 use Rattle.syntax.specs.Below.ListLaws.{keep-few}
 use Rattle.syntax.specs.Items.{line_of}
+pub use Rattle.syntax.proofs.LineLaws.{line-least, line_low}
 
 -- the new lines before a place
 feeds : ℕ → List ℕ → ℕ
@@ -58,16 +59,7 @@ line-past s p = go (dec_lt (length s) p)
         let e : min p (length s) ≡ length s = omega arith in
         rw (e, take_all (length s) s (omega arith), take_all p s (omega arith)) refl
 
--- from 1 on, and at most one more than the place
-pub line-least : (s : List ℕ) (p : ℕ) → 0 < line_of s p
-unfolding line_of
-line-least s p = omega arith
-
-pub line_low : (s : List ℕ) (p : ℕ) → line_of s p ≤ suc p
-unfolding line_of
-line_low s p = omega (arith, keep-few (eqb 10) (take p s), length-take p s)
-
--- and at most one more than the text has bytes
+-- at most one more than the text has bytes
 pub line-high : (s : List ℕ) (p : ℕ) → line_of s p ≤ suc (length s)
 unfolding line_of
 line-high s p = omega (arith, keep-few (eqb 10) (take p s), length-take p s)

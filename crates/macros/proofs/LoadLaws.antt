@@ -15,6 +15,7 @@ use Rattle.syntax.proofs.LineLaws.{text-lined}
 use Rattle.syntax.specs.Load.{Loaded, Lined, program_of, unless_refused, load_from, load_typed}
 use Rattle.syntax.specs.Load.Loaded.{accepted}
 use Rattle.syntax.proofs.LoadLaws.{refuse-listed}
+use Rattle.syntax.proofs.SortLaws.{same-sort}
 use Rattle.syntax.specs.Questions.{questions}
 use Rattle.syntax.specs.Tables.{Draft, blank, draft_after}
 use Rattle.syntax.specs.Verdict.{Verdict, first_no}
@@ -136,15 +137,7 @@ none-wrong ls last d (x ∷ xs) p e =
 
 -- of all items together
 ends-right : (i : Item) → is end i ≡ true → is wrong i ≡ false
-ends-right i h = go i.sort h
-  where
-    go : (k : Sort) → same_sort end k ≡ true → same_sort wrong k ≡ false
-    go separator e = refl
-    go word e = refl
-    go colon e = refl
-    go end e = refl
-    go text e = refl
-    go wrong e = absurd (let z : ◌≡◌ {A = ℕ} 0 1 = cc in omega arith)
+ends-right i h = rw (same-sort end i.sort h) refl
 
 parted-wrong : (i : Item) (x : List Item) (xs : List (List Item)) → wrong_in (parted i (x ∷ xs)) ≡ is wrong i || wrong_in (x ∷ xs)
 unfolding parted
@@ -181,15 +174,7 @@ statements-wrong (i ∷ js) =
 
 colon-right : (js : List Item) → if_any false (is colon) js ≡ true → any (is wrong) (drop 1 js) ≡ any (is wrong) js
 colon-right [] h = refl
-colon-right (i ∷ js) h = rw (go i.sort h) refl
-  where
-    go : (k : Sort) → same_sort colon k ≡ true → same_sort wrong k ≡ false
-    go separator e = refl
-    go word e = refl
-    go colon e = refl
-    go end e = refl
-    go text e = refl
-    go wrong e = absurd (let z : ◌≡◌ {A = ℕ} 0 1 = cc in omega arith)
+colon-right (i ∷ js) h = rw (same-sort colon i.sort h) refl
 
 attach-wrong : (i : Item) (js : List Item) → any (is wrong) (attach i js) ≡ is wrong i || any (is wrong) js
 unfolding attach

@@ -1,18 +1,18 @@
 -- The written-out bytes come from places of the given text that never fall.
-use Rattle.std.specs.Prelude.{◌≡◌, refl, Bool, cond, not, ◌&&◌, ℕ, zero, suc, ◌+◌, ◌-◌, ◌≤◌, ◌<◌, eqb, length, take, drop}
-use Rattle.std.proofs.Common.{sym, true≢false, length-take, length-drop}
+use Rattle.std.specs.Prelude.{◌≡◌, refl, Bool, cond, not, ℕ, zero, suc, ◌+◌, ◌-◌, ◌≤◌, ◌<◌, eqb, length, take, drop}
+use Rattle.std.proofs.Common.{length-take, length-drop, T_not}
 use Rattle.std.proofs.Math.Bool.{true, false}
 use mathlib.Core.List.{List, [], ◌∷◌, ◌++◌, map}
 use native.Mathlib.Omega.{arith}
 use Rattle.std.proofs.Math.Dec.{T}
 use Rattle.syntax.specs.Below.Lists.{ahead, each, filled, head_or, if_any, joined}
-use Rattle.syntax.specs.Items.{Sort, same_sort, up_from}
-use Rattle.syntax.specs.Items.Sort.{separator, word, colon, end, text, wrong}
+use Rattle.syntax.specs.Items.{up_from}
 use Rattle.macros.specs.Elements.{Element, is_end, is_star, is_open, is_close, places_in, elements, until, from, stretches}
 use Rattle.macros.specs.Pieces.{Piece, Change, call_faults, call_of, call_stop, call_changes, section_changes, pieces_from}
 use Rattle.macros.specs.Pieces.Piece.{kept, value, called}
 use Rattle.macros.specs.Macros.{Macro, has_body, from_statement, behind_first, from_list, section, list_change, section_pieces}
 use Rattle.macros.specs.Prepared.{writes, origins}
+use Rattle.macros.proofs.SortLaws.{star-no-end}
 use Rattle.macros.proofs.PlaceLaws.{Ascending, elements-ascend, ascending-drop, ascending-right, joined-stretches, ends_with, Ended, stretches-end}
 
 -- numbers from lo on and below hi, none below the one before
@@ -112,17 +112,6 @@ starred-from : (lo lower hi : ℕ) (us : List Element) (ends : Bool) (ts : List 
 starred-from lo lower hi us ends [] l h = tt
 starred-from lo lower hi us ends (t ∷ ts) l h = let m = h.0 in (omega arith, h.1, h.2, h.3)
 
-star-no-end : (t : Element) → is_star t ≡ true → is_end t ≡ false
-star-no-end t h = go t.sort (eqb 42 t.byte) h
-  where
-    go : (k : Sort) (b : Bool) → (same_sort wrong k && b) ≡ true → same_sort end k ≡ false
-    go separator b e = refl
-    go word b e = refl
-    go colon b e = refl
-    go end b e = absurd (true≢false (sym e))
-    go text b e = refl
-    go wrong b e = refl
-
 pub ends-behind : (t : Element) (ts : List Element) → is_star t ≡ true → T (ends_with is_end (t ∷ ts)) → T (ends_with is_end ts)
 ends-behind t [] e h = rw (star-no-end t e) at h
 ends-behind t (u ∷ ts) e h = h
@@ -183,12 +172,8 @@ calls-ordered lo hi (x ∷ []) h e =
     call-ordered hi [] [] (λ q a. tt) lo (ends_with is_end x) (from is_star x) tt (λ z. refl) (finds-star lo hi x [] h)
 calls-ordered lo hi (x ∷ (y ∷ ys)) h e =
     call-ordered hi (joined (y ∷ ys)) (each (λ z. call_changes [] hi (from is_star z)) (y ∷ ys)) (λ q a. calls-ordered q hi (y ∷ ys) a e.1) lo
-    (ends_with is_end x) (from is_star x) (ascending-right lo hi x (joined (y ∷ ys)) h) (λ z. absurd (neither (ends_with is_end x) e.0 z))
+    (ends_with is_end x) (from is_star x) (ascending-right lo hi x (joined (y ∷ ys)) h) (λ z. absurd (T_not (ends_with is_end x) z e.0))
     (finds-star lo hi x (joined (y ∷ ys)) h)
-  where
-    neither : (b : Bool) → T b → T (not b) → ⊥
-    neither true t z = z
-    neither false t z = t
 
 section-ordered : (lo hi : ℕ) (ts : List Element) → Ascending lo hi (places_in ts) → Ordered lo hi (section_changes hi ts)
 section-ordered lo hi ts h = calls-ordered lo hi (stretches is_end ts) (rw (joined-stretches is_end ts) h) (stretches-end is_end ts)
@@ -212,11 +197,7 @@ list-stops at hi (x ∷ xs) l h e = go (from is_close x) xs e (finds-first is_cl
     go : (ts : List Element) (ys : List (List Element)) → Ended is_close (x ∷ ys) → First (suc at) hi (joined ys) (ends_with is_close x) ts
         → (at ≤ if_any hi (λ u. u.at + 1) ts) × (if_any hi (λ u. u.at + 1) ts ≤ hi) × Ordered (if_any hi (λ u. u.at + 1) ts) hi (section_changes hi (joined ys))
     go [] [] d f = (omega arith, omega arith, section-ordered hi hi [] tt)
-    go [] (y ∷ ys) d f = absurd (never (ends_with is_close x) d.0 f)
-      where
-        never : (b : Bool) → T b → T (not b) → ⊥
-        never true t z = z
-        never false t z = t
+    go [] (y ∷ ys) d f = absurd (T_not (ends_with is_close x) f d.0)
     go (u ∷ ts) ys d f =
         let a = f.0 in
         let z = f.1 in

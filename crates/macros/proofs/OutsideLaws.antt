@@ -5,6 +5,7 @@ use Rattle.std.proofs.Common.{◌∙◌, arith, length-take, length-drop, take-a
 use mathlib.Core.List.{List, [], ◌∷◌, ◌++◌, map, append-nil, map-append}
 use Rattle.std.proofs.Math.ListN.{length-map}
 use Rattle.std.proofs.lemmas.Bool.{lt-leb}
+use Rattle.syntax.proofs.LineLaws.{length_up}
 use Rattle.syntax.specs.Below.Lists.{each, keep}
 use Rattle.syntax.specs.Items.{up_from, line_of}
 use Rattle.macros.specs.Elements.{elements}
@@ -17,7 +18,7 @@ use Rattle.macros.specs.Prepared.Prepared.{ready}
 use Rattle.macros.proofs.OrderLaws.{CalledAt, Ordered, list-ordered}
 use Rattle.macros.specs.Outside.{replaced, covered, outside_places, stays, all_stay, picked}
 use Rattle.macros.proofs.PlaceLaws.{elements-ascend}
-use Rattle.macros.proofs.ShapeLaws.{written-by, up-length, kept-writes, value-writes}
+use Rattle.macros.proofs.ShapeLaws.{written-by, kept-writes, value-writes}
 use Rattle.macros.proofs.WrittenLaws.{AsTyped, section-typed}
 
 -- picking, part by part
@@ -53,13 +54,13 @@ module _ (ms : List Macro) where
   -- as many marks as bytes
   as_many : (p : Piece) → length (stays ms p) ≡ length (origins ms p)
   unfolding stays origins
-  as_many (kept place w) = length-map w (λ b. true) ∙ sym (up-length place w)
+  as_many (kept place w) = length-map w (λ b. true) ∙ sym (length_up place w)
   as_many (value k) = refl
   as_many (called c) = length-map (writes ms (called c)).bytes (λ b. false) ∙ sym (length-map (writes ms (called c)).bytes (λ b. c.at))
 
   piece-picked : (p : Piece) → picked (stays ms p) (origins ms p) ≡ kept_places p
   unfolding stays origins kept_places
-  piece-picked (kept place w) = picked_all w (up_from place w) (sym (up-length place w))
+  piece-picked (kept place w) = picked_all w (up_from place w) (sym (length_up place w))
   piece-picked (value k) = refl
   piece-picked (called c) = picked_none (writes ms (called c)).bytes (map (λ b. c.at) (writes ms (called c)).bytes)
 

@@ -1,6 +1,6 @@
 -- The two readings agree: a text of clean bytes has no macros.
 use Rattle.std.specs.Prelude.{◌≡◌, refl, Bool, true, false, cond, not, ◌&&◌, ◌||◌, List, [], ◌∷◌, ◌++◌, ℕ, zero, suc, ◌+◌, T, eqb, get_or, drop}
-use Rattle.std.proofs.Common.{sym, subst, true≢false, add-one, arith, eqb→eq}
+use Rattle.std.proofs.Common.{sym, true≢false, add-one, arith, eqb-true}
 use Rattle.syntax.specs.Below.Lists.{all, any, among, each}
 use Rattle.syntax.specs.Below.ListLaws.{T-left, T-right, T-both, all_head, all_tail}
 use Rattle.syntax.specs.Below.Quoted.{bytes}
@@ -48,9 +48,6 @@ Agree commented b m = Commented inside m
 Agree starred b m = either (eqb b 47) (Commented last-slash m) (Commented inside m)
 Agree (quoted star) b m = Quoted star m
 
-pub equal : (m n : ℕ) → eqb m n ≡ true → m ≡ n
-equal m n h = eqb→eq m n (subst T (sym h) tt)
-
 -- outside, a byte that is no slash and no apostrophe leaves the reader outside
 sort-out : (b n next : ℕ) → eqb b 47 ≡ false → eqb b 39 ≡ false → Out (begins (sort_of b) n b next)
 unfolding begins sort_of
@@ -84,8 +81,8 @@ begins-agree : (b n next : ℕ) → Agree (free_after b) next (begins (sort_of b
 begins-agree b n next = go (eqb b 47) refl (eqb b 39) refl
   where
     go : (s : Bool) → eqb b 47 ≡ s → (q : Bool) → eqb b 39 ≡ q → Agree (cond s slashed (cond q (quoted false) free)) next (begins (sort_of b) n b next)
-    go true e q f = rw (equal b 47 e) (slash-agrees n next)
-    go false e true f = rw (equal b 39 f) (quote-agrees n next)
+    go true e q f = rw (eqb-true b 47 e) (slash-agrees n next)
+    go false e true f = rw (eqb-true b 39 f) (quote-agrees n next)
     go false e false f = sort-out b n next e f
 
 -- a byte of a word is no slash and no apostrophe
@@ -94,8 +91,8 @@ unfolding sort_of
 word-free b h = go (eqb b 47) refl (eqb b 39) refl
   where
     go : (s : Bool) → eqb b 47 ≡ s → (q : Bool) → eqb b 39 ≡ q → cond s slashed (cond q (quoted false) free) ≡ free
-    go true e q f = absurd (true≢false (sym (rw (equal b 47 e) at h)))
-    go false e true f = absurd (true≢false (sym (rw (equal b 39 f) at h)))
+    go true e q f = absurd (true≢false (sym (rw (eqb-true b 47 e) at h)))
+    go false e true f = absurd (true≢false (sym (rw (eqb-true b 39 f) at h)))
     go false e false f = refl
 
 out-agrees : (m : Mode) (b n next : ℕ) → Out m → Agree (free_after b) next (mode_after m n b next)

@@ -5,7 +5,7 @@ use Rattle.std.proofs.lemmas.List.{length-map}
 use Rattle.syntax.specs.Below.Limits as limit
 use Rattle.syntax.specs.Below.Lists.{each}
 use Rattle.syntax.specs.Items.{line_of, up_from, lines_of}
-use Rattle.syntax.proofs.LineLaws.{length-lines}
+use Rattle.syntax.proofs.LineLaws.{length-lines, length_up}
 use Rattle.syntax.specs.Verdict.{Question, ask, Verdict, lowest, decide, first_no}
 use Rattle.syntax.specs.Verdict.Verdict.{yes, refuse}
 use Rattle.macros.specs.Marks.{has_macros, whole_questions}
@@ -21,11 +21,6 @@ use Rattle.macros.proofs.OrderLaws.{Rising, rising-from, up-rises, section-rises
 
 -- As many places as bytes
 
-pub up-length : (place : ℕ) (w : List ℕ) → length (up_from place w) ≡ length w
-unfolding up_from
-up-length place [] = refl
-up-length place (b ∷ w) = ap suc (up-length (suc place) w)
-
 none-there : (k : ℕ) → get_or {A = List ℕ} [] k [] ≡ []
 none-there zero = refl
 none-there (suc k) = refl
@@ -40,7 +35,7 @@ value-writes ms k = rw (none-there k)
 
 origins-length : (ms : List Macro) (p : Piece) → length (origins ms p) ≡ length (writes ms p).bytes
 unfolding origins
-origins-length ms (kept place w) = rw (kept-writes ms place w) (up-length place w ∙ omega (arith, length-append w []))
+origins-length ms (kept place w) = rw (kept-writes ms place w) (length_up place w ∙ omega (arith, length-append w []))
 origins-length ms (value k) = rw (value-writes ms k)
 origins-length ms (called c) = length-map (writes ms (called c)).bytes (λ b. c.at)
 

@@ -1,6 +1,7 @@
 -- A macro of a text that 16 lets pass has a name of at most as many characters as an item.
 use Rattle.std.specs.Prelude.{◌≡◌, Bool, true, false, cond, not, ◌&&◌, ◌||◌, List, [], ◌∷◌, map, ℕ, zero, suc, ◌+◌, ◌≤◌, ◌<◌, T, leb, ltb, length, get_or, take, drop}
 use Rattle.std.proofs.Common.{ltb-false, leb→le, le→leb}
+use Rattle.lists.specs.AppendLaws.{all_append, all_left, all_right}
 use Rattle.syntax.specs.Below.Limits as limit
 use Rattle.syntax.specs.Below.Lists.{ahead, all, each, joined, keep}
 use Rattle.syntax.specs.Below.ListLaws.{T-left, T-right, T-both, all-at}
@@ -15,7 +16,7 @@ use Rattle.macros.specs.Macros.{Macro, from_list, header, header_words, macro_of
 use Rattle.macros.specs.Prepared.{listed}
 use Rattle.macros.proofs.PlaceLaws.{joined-stretches}
 use Rattle.macros.proofs.AcceptedLaws.{ends_list, unkept, yes-at, body_pieces}
-use Rattle.macros.proofs.FullLaws.{all-joined, all_left, all_right, all_take, all_drop, all-from-list}
+use Rattle.macros.proofs.FullLaws.{all_take, all_drop, all-from-list}
 
 abbrev short : List ℕ → Bool
 short w = leb (length w) limit.item
@@ -93,7 +94,7 @@ definitions-short : (s : List ℕ) (k : ℕ) (xs : List (List Element)) → T (a
 definitions-short s zero xs h = tt
 definitions-short s (suc k) [] h = tt
 definitions-short s (suc k) (x ∷ xs) h =
-    all-joined short_macro (macro_of s x) (each (macro_of s) (take k xs)) (definition-short s x (all_left short_word x (joined xs) h))
+    all_append short_macro (macro_of s x) (each (macro_of s) (take k xs)) (definition-short s x (all_left short_word x (joined xs) h))
     (definitions-short s k xs (all_right short_word x (joined xs) h))
 
 pub listed-short : (s : List ℕ) → first_no (whole_questions s) ≡ yes → T (all short_macro (listed s))

@@ -1,7 +1,9 @@
 -- A text in tiles: its elements, and between them gaps of clean bytes.
 use Rattle.std.specs.Prelude.{◌≡◌, refl, Bool, true, false, cond, not, ◌&&◌, ◌||◌, List, [], ◌∷◌, ◌++◌, map, ℕ, suc, ◌+◌, ◌-◌, T, eqb, length, get_or, take, drop}
-use Rattle.std.proofs.Common.{ap, sym, subst, ◌∙◌, true≢false, append_assoc, arith, length-append}
-use Rattle.std.proofs.lemmas.Bool.{false≢true}
+use Rattle.std.proofs.Common.{ap, sym, subst, ◌∙◌, true≢false, append_assoc, arith, length-append, eqb-true}
+use Rattle.std.proofs.lemmas.Bool.{false≢true, and_parts}
+use lib.Seq.{take-append_seam}
+use Rattle.std.specs.Bool.{passes as truth}
 use Rattle.syntax.specs.Below.Program.{identifier}
 use Rattle.syntax.specs.Below.Lists.{all, any, among, filled, if_any, bytes_equal}
 use Rattle.syntax.specs.Below.ListLaws.{T-left, T-right, T-both}
@@ -17,7 +19,7 @@ use Rattle.macros.specs.Elements.{Element, element_of, end_of, is_word, is_text,
 use Rattle.macros.specs.Cleanness.{Stand, stand_after, stands_well, unmarked, stand_at_end, is_free, clean}
 use Rattle.macros.specs.Cleanness.Stand.{free, slashed, commented, starred, quoted}
 use Rattle.macros.proofs.CleanLaws.{end-joined, unmarked-joined, clean-joined, clean-none}
-use Rattle.macros.proofs.PlainLaws.{either, Agree, equal, here, step-agrees}
+use Rattle.macros.proofs.PlainLaws.{either, Agree, here, step-agrees}
 
 -- clean bytes of a text between two places
 pub record Gap (s : List ℕ) (lo hi : ℕ) : Type 0 where
@@ -38,14 +40,10 @@ gap-joined s lo mid hi g h =
       fine = clean-joined g.bytes h.bytes g.fine h.fine;
     }
 
-front : (v w : List ℕ) → take (length v) (v ++ w) ≡ v
-front [] w = refl
-front (b ∷ v) w = ap (λ (u : List ℕ). b ∷ u) (front v w)
-
 pub gap-taken : (s : List ℕ) (lo hi : ℕ) → Gap s lo hi → T (clean (take (hi - lo) (drop lo s)))
 gap-taken s lo hi g =
     let e : hi - lo ≡ length g.bytes = omega (arith, g.size) in
-    rw (e, g.is, front g.bytes (drop hi s)) g.fine
+    rw (e, g.is, take-append_seam g.bytes (drop hi s)) g.fine
 
 pub gap-one : (s : List ℕ) (n b : ℕ) (r : List ℕ) → drop n s ≡ b ∷ r → T (clean (b ∷ [])) → Gap s n (n + 1)
 gap-one s n b r e h =
@@ -66,11 +64,11 @@ plain-clean b h = go (eqb b 47) refl (eqb b 39) refl (eqb b 42) refl (eqb b 40) 
   where
     go : (s : Bool) → eqb b 47 ≡ s → (q : Bool) → eqb b 39 ≡ q → (x : Bool) → eqb b 42 ≡ x → (y : Bool) → eqb b 40 ≡ y → (z : Bool) → eqb b 41 ≡ z
         → T ((not (x || (y || (z || false))) && true) && is_free (cond s slashed (cond q (quoted false) free)))
-    go true e q f x i y j z k = absurd (false≢true (rw (equal b 47 e) at h))
-    go false e true f x i y j z k = absurd (false≢true (rw (equal b 39 f) at h))
-    go false e false f true i y j z k = absurd (false≢true (rw (equal b 42 i) at h))
-    go false e false f false i true j z k = absurd (false≢true (rw (equal b 40 j) at h))
-    go false e false f false i false j true k = absurd (false≢true (rw (equal b 41 k) at h))
+    go true e q f x i y j z k = absurd (false≢true (rw (eqb-true b 47 e) at h))
+    go false e true f x i y j z k = absurd (false≢true (rw (eqb-true b 39 f) at h))
+    go false e false f true i y j z k = absurd (false≢true (rw (eqb-true b 42 i) at h))
+    go false e false f false i true j z k = absurd (false≢true (rw (eqb-true b 40 j) at h))
+    go false e false f false i false j true k = absurd (false≢true (rw (eqb-true b 41 k) at h))
     go false e false f false i false j false k = tt
 
 text-byte : (b : ℕ) → sort_of b ≡ text → b ≡ 39
@@ -82,7 +80,7 @@ text-byte b h = go (among b (bytes " ,")) (is_capital b || is_digit b || among b
     go false true d e f z k = absurd (omega (arith, ap sort_number k))
     go false false true e f z k = absurd (omega (arith, ap sort_number k))
     go false false false true f z k = absurd (omega (arith, ap sort_number k))
-    go false false false false true z k = equal b 39 z
+    go false false false false true z k = eqb-true b 39 z
     go false false false false false z k = absurd (omega (arith, ap sort_number k))
 
 -- Elements as tiles
@@ -144,16 +142,12 @@ mark-passes true h = tt
 mark-passes false h = h
 
 -- a slash that opens a comment
-both_true : (a b : Bool) → (a && b) ≡ true → (a ≡ true) × (b ≡ true)
-both_true true b h = (refl, h)
-both_true false b h = absurd (false≢true h)
-
 opening : (s : List ℕ) (n b next : ℕ) (r : List ℕ) → drop n s ≡ b ∷ r → opens b next ≡ true → InComment s n (n + 1) first-star next
 unfolding unmarked stands_well stand_at_end stand_after
 opening s n b next r e o =
-    let parts = both_true (eqb b 47) (eqb next 42) o in
-    let slash = equal b 47 parts.0 in
-    let star = equal next 42 parts.1 in
+    let parts = and_parts (eqb b 47) (eqb next 42) o in
+    let slash = eqb-true b 47 parts.0 in
+    let star = eqb-true next 42 parts.1 in
     record {
       bytes = 47 ∷ [];
       is = e ∙ rw slash (ap (λ (w : List ℕ). 47 ∷ w) (sym (here n s b r e).1));
@@ -306,7 +300,7 @@ text-whole s at n star r e z c =
     let none : text_length star (drop n s) ≡ 0 = rw e (rw z refl) in
     let whole : List ℕ = 39 ∷ (c.bytes ++ (39 ∷ [])) in
     let size : text_length false (drop (at + 1) s) + 2 ≡ length whole = simp length-append (omega (arith, c.long, none)) in
-    rw (size, longer s (39 ∷ c.bytes) at n 39 r c.is e) (front whole (drop (n + 1) s))
+    rw (size, longer s (39 ∷ c.bytes) at n 39 r c.is e) (take-append_seam whole (drop (n + 1) s))
 
 text-clean : (s : List ℕ) (at n : ℕ) (star : Bool) → ends_text star 39 ≡ true → (c : InText s at n star) → T (clean (39 ∷ (c.bytes ++ (39 ∷ []))))
 unfolding clean unmarked stand_at_end stands_well stand_after is_free
@@ -326,7 +320,7 @@ text-tiles s hi lo at n star cs good b next r e g c p rest f = go (ends_text sta
         → T (all (passes s) (cond t (a_text at cs (good && u) ∷ cond u [] (a_mark end n ∷ [])) []))
         → ((lo' : ℕ) → Held s lo' (n + 1) next (cond t outside (in_text at (takes_next star b) (cs ++ char_of star b) (good && allows star b))) → Tiled s hi lo' (tiles_of s rest))
         → Tiled s hi lo (tiles_of s (cond t (a_text at cs (good && u) ∷ cond u [] (a_mark end n ∷ [])) [] ++ rest))
-    go true z true y q k = closed (equal b 39 y)
+    go true z true y q k = closed (eqb-true b 39 y)
       where
         closed : b ≡ 39 → Tiled s hi lo (tiles_of s (a_text at cs (good && true) ∷ rest))
         closed i =
@@ -416,19 +410,15 @@ step-tiles s hi lo n b next r (in_text at star cs good) e h p rest f = text-tile
 
 -- The reader that finds joining apostrophes stands where the reader of the marked text stands
 
-pub truth : (a : Bool) → a ≡ true → T a
-truth true h = tt
-truth false h = absurd (false≢true h)
-
 joins-word : (st : Reader) (b : ℕ) (r : List ℕ) → joins st b r ≡ true → T (identifier (word_in st.mode))
 unfolding joins
 joins-word st b r h =
     let next = take (word_length r) r in
     let name = identifier (word_in st.mode) in
-    let one = (both_true (eqb b 39 && name && not st.joined && identifier next) (any (bytes_equal next) (parameters_in st.part)) h).0 in
-    let two = (both_true (eqb b 39 && name && not st.joined) (identifier next) one).0 in
-    let three = (both_true (eqb b 39 && name) (not st.joined) two).0 in
-    truth name (both_true (eqb b 39) name three).1
+    let one = (and_parts (eqb b 39 && name && not st.joined && identifier next) (any (bytes_equal next) (parameters_in st.part)) h).0 in
+    let two = (and_parts (eqb b 39 && name && not st.joined) (identifier next) one).0 in
+    let three = (and_parts (eqb b 39 && name) (not st.joined) two).0 in
+    truth name (and_parts (eqb b 39) name three).1
 
 -- after a word's byte the byte behind it does not matter
 begins-blind : (k : Sort) (n b x y : ℕ) → T (identifier (word_in (begins k n b x))) → begins k n b x ≡ begins k n b y
@@ -605,11 +595,11 @@ link-tiles s hi lo t (u ∷ (v ∷ us)) g k h =
     go : (b : Bool) → (is_word t && (is_mark 39 u && eqb u.at (end_of t) && is_word v && eqb v.at (end_of t + 1) && not (filled v.joined))) ≡ b
         → Tiled s hi lo (cond b (with-joined t (v.typed ∷ []) ∷ us) (t ∷ (u ∷ (v ∷ us))))
     go true e =
-        let both = both_true (is_word t) (is_mark 39 u && eqb u.at (end_of t) && is_word v && eqb v.at (end_of t + 1) && not (filled v.joined)) e in
-        let one = both_true (is_mark 39 u && eqb u.at (end_of t) && is_word v && eqb v.at (end_of t + 1)) (not (filled v.joined)) both.1 in
-        let two = both_true (is_mark 39 u && eqb u.at (end_of t) && is_word v) (eqb v.at (end_of t + 1)) one.0 in
-        let three = both_true (is_mark 39 u && eqb u.at (end_of t)) (is_word v) two.0 in
-        let here = equal v.at (end_of t + 1) two.1 in
+        let both = and_parts (is_word t) (is_mark 39 u && eqb u.at (end_of t) && is_word v && eqb v.at (end_of t + 1) && not (filled v.joined)) e in
+        let one = and_parts (is_mark 39 u && eqb u.at (end_of t) && is_word v && eqb v.at (end_of t + 1)) (not (filled v.joined)) both.1 in
+        let two = and_parts (is_mark 39 u && eqb u.at (end_of t) && is_word v) (eqb v.at (end_of t + 1)) one.0 in
+        let three = and_parts (is_mark 39 u && eqb u.at (end_of t)) (is_word v) two.0 in
+        let here = eqb-true v.at (end_of t + 1) two.1 in
         let ends : past v ≡ past (with-joined t (v.typed ∷ [])) =
         word-alone v three.1 one.1 ∙ ap (λ (n : ℕ). n + length v.typed) here ∙ sym (joined-past t v.typed both.0) in
         (g, joined-tile s t (v.typed ∷ []) k, subst (λ (n : ℕ). Tiled s hi n us) ends h.2.2)

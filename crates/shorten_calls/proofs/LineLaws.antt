@@ -3,6 +3,7 @@ use Rattle.std.specs.Prelude.{◌≡◌, refl, ◌≢◌, Bool, true, false, con
 use Rattle.std.proofs.Common.{ap, sym, ◌∙◌, subst, append_assoc, arith, length-append, eqb-true, ne_eqb}
 use mathlib.Core.List.Sublistᴰ
 use Rattle.std.proofs.lemmas.Bool.{eqb-false}
+use mathlib.Core.List.{append-nil}
 use Rattle.lists.specs.Lists.{joined}
 use Rattle.text_lines.specs.Lines.{onto, lines}
 use Rattle.shorten_calls.specs.Parts.{InOrder, Whole, Open, Lined}
@@ -64,10 +65,6 @@ pub lines-back : (ls : List (List ℕ)) → Lined ls → lines (joined ls) ≡ l
 unfolding lines
 lines-back ls none = refl
 lines-back ls (last {l = l} o) = ap lines (append-nil l) ∙ open-only o
-  where
-    append-nil : (l : List ℕ) → l ++ [] ≡ l
-    append-nil [] = refl
-    append-nil (x ∷ l) = ap (λ (u : List ℕ). x ∷ u) (append-nil l)
 lines-back ls (next {l = l} {ls = r} w k) = whole-first w (joined r) ∙ ap (λ (u : List (List ℕ)). l ∷ u) (lines-back r k)
 
 -- ---- bytes count lines: some lines in order that have as many bytes are all of them

@@ -1,13 +1,16 @@
 -- Contents are as laid out, those of the state that they give, just when they are whole.
-use Rattle.std.specs.Prelude.{◌≡◌, ◌↔◌, Bool, true, false, eqb}
+use Rattle.std.specs.Prelude.{◌≡◌, ◌↔◌, eqb}
 use Rattle.std.proofs.Math.Path.{refl, sym, ap}
 use Rattle.std.proofs.Common.{◌∙◌, take_at, drop_at, get_or-drop, drop-drop}
 use Rattle.std.proofs.Math.Bool.{cond}
-use mathlib.Core.List.{List, [], ◌∷◌, ◌++◌, map, append_assoc, append-nil}
-use Prim.Native.Nat.{ℕ, zero, suc, ◌+◌, ◌*◌, ◌/◌, ◌%◌, ◌≤◌, ◌<◌}
+use mathlib.Core.List.{List, [], ◌∷◌, ◌++◌, map, append_assoc, append-nil, map-map}
+use Prim.Native.Nat.{ℕ, zero, suc, ◌+◌, ◌*◌, ◌/◌, ◌<◌}
 use native.Mathlib.Omega.{arith}
 use Rattle.std.proofs.Math.ListN.{length, get_or, drop, length-append}
 use Rattle.std.proofs.lemmas.List.{length-map}
+use Rattle.layout.specs.CodeLaws.{three-cells}
+use Rattle.layout.specs.EachLaws.{each_map}
+use Rattle.lists.specs.BoolLaws.{sign-most, sign-again}
 use Rattle.language.specs.Limits as limit
 use Rattle.lists.specs.Lists.{each}
 use Rattle.language.specs.Values.{File, State}
@@ -18,21 +21,11 @@ use Rattle.layout.specs.Components.{components_bytes, records_bytes, components_
 use Rattle.layout.specs.Memory.{threes_in, files_in, twos_in, state_by}
 use Rattle.layout.proofs.MemoryLaws.{threes-back}
 use Rattle.state_frames.specs.Frames.{Frame, framed}
-use Rattle.state_frames.proofs.FrameLaws.{each-path}
 use Rattle.state_frames.specs.Saved.{head_count, head_numbers, file_contents, file_bytes, numbered, slots, contents_at, contents_of, before_half, after_half, halves, strings_by, numbers_in, numbers_by, restored}
 use Rattle.state_frames.proofs.SavedLaws.{halves-back}
 use Rattle.state_frames.specs.Order.{Found, LaidOut, WholeFile, WholeContents}
 
 -- ---- numbers of three bytes
-
-three-of : (a b d : ℕ) → a < 256 → b < 256 → d < 256 → three (a + 256 * b + 65536 * d) ≡ a ∷ b ∷ d ∷ []
-three-of a b d x y z =
-    let n = a + 256 * b + 65536 * d in
-    let p : n % 256 ≡ a = omega arith in
-    let m : n / 256 ≡ b + 256 * d = omega arith in
-    let q : n / 256 % 256 ≡ b = rw m (omega arith) in
-    let r : n / 65536 ≡ d = omega arith in
-    rw (p, q, r)
 
 length-threes : (n : ℕ) (l : List ℕ) → length (threes_in n l) ≡ n
 unfolding threes_in
@@ -48,18 +41,9 @@ threes-of (suc n) [] h b = absurd (omega (arith, h))
 threes-of (suc n) (x ∷ []) h b = absurd (omega (arith, h))
 threes-of (suc n) (x ∷ y ∷ []) h b = absurd (omega (arith, h))
 threes-of (suc n) (x ∷ y ∷ z ∷ l) h b =
-    let e = three-of x y z b.0 b.1.0 b.1.1.0 in
+    let e = three-cells x y z b.0 b.1.0 b.1.1.0 in
     let t = threes-of n l (omega (arith, h)) b.1.1.1 in
     λ j. e j ++ t j
-
-sign_of : (n : ℕ) → n ≤ 1 → cond (eqb n 1) 1 0 ≡ n
-sign_of zero h = refl
-sign_of (suc zero) h = refl
-sign_of (suc (suc n)) h = absurd (omega (arith, h))
-
-sign-most : (b : Bool) → cond b 1 0 ≤ 1
-sign-most true = omega arith
-sign-most false = omega arith
 
 -- ---- the parts of the state that frames give
 
@@ -178,10 +162,6 @@ fixed-each : (g : List ℕ → List ℕ) (cs : List (List ℕ)) → cs ≡ map g
 fixed-each g [] h = tt
 fixed-each g (c ∷ cs) h = let e : g c ≡ c = cc in let t : cs ≡ map g cs = cc in (e, fixed-each g cs t)
 
-map-map : {X Y Z : Type 0} (f : Y → Z) (g : X → Y) (xs : List X) → map f (map g xs) ≡ map (λ x. f (g x)) xs
-map-map f g [] = refl
-map-map f g (x ∷ xs) = ap (λ t. f (g x) ∷ t) (map-map f g xs)
-
 -- a file's contents, there and back
 abbrev file_again : List ℕ → List ℕ
 file_again c = file_bytes (file_in c)
@@ -239,12 +219,12 @@ module _ (fs : List Frame) where
       let ns = numbers_by fs in
       let read = numbers-firsts w.head_length in
       let long : length ns ≡ head_count = ap length read ∙ length-threes head_count (contents_at 1 0 fs) in
-      let n0 : cond (eqb (get_or ns 0 0) 1) 1 0 ≡ get_or ns 0 0 = sign_of (get_or ns 0 0) w.head_sign in
+      let n0 : cond (eqb (get_or ns 0 0) 1) 1 0 ≡ get_or ns 0 0 = sign-again (get_or ns 0 0) w.head_sign in
       let hd : head_numbers (s fs) ≡ ns = restored-head fs ∙ ap (λ (x : ℕ). x ∷ drop 1 (firsts fs)) n0 ∙ first_some fs ∙ firsts-are fs long in
       let h1 : contents_at 1 0 fs ≡ each three (head_numbers (s fs)) =
       sym (threes-of head_count (contents_at 1 0 fs) w.head_length b) ∙ ap (each three) (sym (hd ∙ read)) in
       let e2 : E fs ≡ map components_bytes (s fs).store.exprs = sym (exprs-again ∙ each-fixed (λ c. components_bytes (components_in c)) (E fs) w.exprs_whole) in
-      let e3 : F fs ≡ map file_bytes (s fs).store.files = sym (files-again ∙ each-fixed file_again (F fs) (each-path WholeFile (λ c. file_again c ≡ c) whole-file (F fs) w.files_whole)) in
+      let e3 : F fs ≡ map file_bytes (s fs).store.files = sym (files-again ∙ each-fixed file_again (F fs) (each_map WholeFile (λ c. file_again c ≡ c) whole-file (F fs) w.files_whole)) in
       let h5 : contents_at 5 0 fs ≡ each two (s fs).stack = sym (ap (each two) (restored-stack fs) ∙ w.stack_whole) in (
         h1,
         each_append (Found fs) N2 (N3 ++ (N4 ++ N5)) (list-found fs 2 (map components_bytes (s fs).store.exprs) limit.expressions exprs-long e2)
@@ -269,7 +249,7 @@ module _ (fs : List Frame) where
         head_length = ap length h1 ∙ length-each 3 three (λ n. refl) (head_numbers (s fs));
         head_sign = rw sign (sign-most (s fs).store.plus);
         exprs_whole = fixed-each (λ c. components_bytes (components_in c)) (E fs) e2;
-        files_whole = each-path (λ c. file_again c ≡ c) WholeFile file-whole (F fs) (fixed-each file_again (F fs) e3);
+        files_whole = each_map (λ c. file_again c ≡ c) WholeFile file-whole (F fs) (fixed-each file_again (F fs) e3);
         stack_whole = ap (each two) (sym (restored-stack fs)) ∙ sym l5.0;
       }
 

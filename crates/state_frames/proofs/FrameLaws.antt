@@ -20,11 +20,6 @@ pub record FrameOk (f : Frame) : Type 0 where
   pub length_below : length f.contents < 65536
   pub contents_below : Below 256 f.contents
 
--- from one fact of each element to another
-pub each-path : {X : Type 0} (P Q : X → Type 0) → ((x : X) → P x → Q x) → (xs : List X) → Each P xs → Each Q xs
-each-path P Q f [] h = tt
-each-path P Q f (x ∷ xs) h = (f x h.0, each-path P Q f xs h.1)
-
 -- ---- a frame
 
 sum-end : (c : List ℕ) (x : ℕ) → sum (c ++ (x ∷ [])) ≡ sum c + x

@@ -4,7 +4,7 @@ use Rattle.std.proofs.Math.Path.{refl, sym, ap}
 use Rattle.std.proofs.Common.{◌∙◌, subst}
 use Rattle.std.proofs.Math.Bool.{true}
 use mathlib.Core.List.{List, [], ◌∷◌}
-use Rattle.lists.specs.ListLaws.{T-left, T-right, T-both}
+use Rattle.lists.specs.ListLaws.{T-left, T-right, T-both, part, parts}
 use Rattle.lists.specs.Lists.{all, if_any, among}
 use Rattle.language.specs.Program.{Program}
 use Rattle.language.specs.Values.{State, Inputs}
@@ -38,6 +38,9 @@ module _ (c : List ℕ) (ins : Inputs) (t m : List ℕ) where
   abbrev asked : List Question
   asked = read_questions c ins t m
 
+  abbrev tests : List Bool
+  tests = good_table c ∷ good_inputs ins ∷ long_enough m ∷ sound_text t ∷ well_framed (program_of c) ins (frames_in t) ∷ []
+
   -- each of its five questions is answered yes
   pub record ReadYes : Type 0 where
     pub table_good : T (good_table c)
@@ -57,39 +60,15 @@ module _ (c : List ℕ) (ins : Inputs) (t m : List ℕ) where
     where
       go : (ns : List ℕ) → refusals asked ≡ ns → ReadDecision (if_any (read_accepted (restored (frames_in t)) m) (read_refused m) ns)
       go [] e =
-          let a = good_table c in
-          let b = good_inputs ins in
-          let d = long_enough m in
-          let f = sound_text t in
-          let w = well_framed (program_of c) ins (frames_in t) in
-          let h1 = none-no asked e in
-          let h2 = T-right a (b && (d && (f && (w && true)))) h1 in
-          let h3 = T-right b (d && (f && (w && true))) h2 in
-          let h4 = T-right d (f && (w && true)) h3 in
-          let h5 = T-right f (w && true) h4 in
-          answered_yes
-          (record {
-            table_good = T-left a (b && (d && (f && (w && true)))) h1;
-            inputs_good = T-left b (d && (f && (w && true))) h2;
-            long = T-left d (f && (w && true)) h3;
-            sound = T-left f (w && true) h4;
-            framed = T-left w true h5;
-          })
+          let yes = part tests (none-no asked e) in
+          answered_yes (record { table_good = yes 0; inputs_good = yes 1; long = yes 2; sound = yes 3; framed = yes 4 })
       go (n ∷ ns) e = answered_no (ns, e)
 
   pub read_taken : ReadYes → read_of c ins t m ≡ read_accepted (restored (frames_in t)) m
   unfolding read_of
   read_taken y =
-      let a = good_table c in
-      let b = good_inputs ins in
-      let d = long_enough m in
-      let f = sound_text t in
-      let w = well_framed (program_of c) ins (frames_in t) in
       ap (if_any (read_accepted (restored (frames_in t)) m) (read_refused m))
-      (all_yes asked
-      (T-both a (b && (d && (f && (w && true)))) y.table_good
-      (T-both b (d && (f && (w && true))) y.inputs_good
-      (T-both d (f && (w && true)) y.long (T-both f (w && true) y.sound (T-both w true y.framed tt))))))
+      (all_yes asked (parts tests (y.table_good, (y.inputs_good, (y.long, (y.sound, (y.framed, tt)))))))
 
   -- a refusal has the number of the first question answered no, which is none of acceptance
   pub refused-by : (number : ℕ) → FirstNo number asked → read_of c ins t m ≡ read_refused m number

@@ -4,13 +4,13 @@ use Rattle.std.proofs.Common.{◌∙◌, le→leb, length-append}
 use mathlib.Core.List.{List, [], ◌∷◌, ◌++◌, map}
 use native.Mathlib.Omega.{arith}
 use Rattle.std.proofs.Math.ListN.{length-map}
-use Rattle.lists.specs.ListLaws.{T-both, total-append}
-use Rattle.lists.specs.Lists.{total, filled, keep, each}
+use Rattle.lists.specs.ListLaws.{T-both, parts, total-append}
+use Rattle.lists.specs.Lists.{total, filled, keep}
 use Rattle.language.specs.Values.{File, State, Inputs}
 use Rattle.machine.specs.WellFormed.{good_inputs}
 use Rattle.layout.specs.Bounds.{Fine}
 use Rattle.layout.proofs.CellLaws.{length-each}
-use Rattle.layout.specs.Cells.{two, three}
+use Rattle.layout.specs.Cells.{two}
 use Rattle.layout.specs.Components.{components_bytes, records_bytes}
 use Rattle.layout.proofs.FineLaws.{fine-room}
 use Rattle.layout.specs.Memory.{file_strings, strings, state_of, good_memory}
@@ -22,7 +22,7 @@ use Rattle.layout.proofs.TableLaws.{table-facts}
 use Rattle.calls.specs.Filling.Filling.{fills}
 use Rattle.state_frames.specs.Hexadecimal.{two_digits, hexadecimal, line}
 use Rattle.state_frames.specs.Frames.{Frame, framed, frame_bytes, frame_line, frames_text}
-use Rattle.state_frames.specs.Saved.{head_numbers, file_contents, file_bytes, numbered, slots, nonempty, frames_of, saved}
+use Rattle.state_frames.specs.Saved.{expressions_bytes, files_bytes, stack_bytes, file_contents, file_bytes, numbered, slots, nonempty, frames_of, saved}
 use Rattle.state_frames.specs.Keeping.{write_questions, write_of}
 use Rattle.state_frames.proofs.KeepingLaws.{all_yes}
 
@@ -73,45 +73,30 @@ files-most [] = omega arith
 files-most (f ∷ fs) = simp length-append (omega (arith, file-most (records_bytes f.before) (records_bytes f.after), files-most fs))
 
 module _ (s : State) (f : Fine s) where
-  abbrev H : List ℕ
-  H = each three (head_numbers s)
-
-  abbrev E : List (List ℕ)
-  E = map components_bytes s.store.exprs
-
-  abbrev F : List (List ℕ)
-  F = map file_bytes s.store.files
-
   abbrev B : List (List ℕ)
   B = file_strings s.store.files
-
-  abbrev Q : List (List ℕ)
-  Q = s.store.outputs
-
-  abbrev R : List ℕ
-  R = each two s.stack
 
   slots-cost : total cost (slots s) ≤ 47754
   unfolding slots strings
   slots-cost =
-      let N2 = numbered 2 1 E in
-      let N3 = numbered 3 1 F in
-      let N4 = numbered 4 1 Q in
-      let N5 : List Frame = framed 5 0 R ∷ [] in
+      let N2 = numbered 2 1 (expressions_bytes s) in
+      let N3 = numbered 3 1 (files_bytes s) in
+      let N4 = numbered 4 1 s.store.outputs in
+      let N5 : List Frame = framed 5 0 (stack_bytes s) ∷ [] in
       omega (
         arith,
         total-append cost N2 (N3 ++ (N4 ++ N5)),
         total-append cost N3 (N4 ++ N5),
         total-append cost N4 N5,
-        numbered-cost 2 1 E,
-        numbered-cost 3 1 F,
-        numbered-cost 4 1 Q,
+        numbered-cost 2 1 (expressions_bytes s),
+        numbered-cost 3 1 (files_bytes s),
+        numbered-cost 4 1 s.store.outputs,
         length-map s.store.exprs components_bytes,
         length-map s.store.files file_bytes,
         files-most s.store.files,
-        used-append E (B ++ (R ∷ Q)),
-        used-append B (R ∷ Q),
-        used-cons R Q,
+        used-append (expressions_bytes s) (B ++ (stack_bytes s ∷ s.store.outputs)),
+        used-append B (stack_bytes s ∷ s.store.outputs),
+        used-cons (stack_bytes s) s.store.outputs,
         fine-room s f,
         f.exprs_is,
         f.files_is,
@@ -128,10 +113,7 @@ pub writes : (c : List ℕ) (ins : Inputs) (m : List ℕ) (room : ℕ) → T (go
     → write_of c ins m room ≡ fills 80 (saved (state_of m))
 unfolding write_of
 writes c ins m room tc gi g h =
-    let a = good_table c in
-    let b = good_inputs ins in
-    let d = good_memory (program_of c) ins m in
-    let e = leb (length (saved (state_of m))) room in
     let most = saved-most (state_of m) (memory-fine (program_of c) ins m (table-facts c tc).good gi g) in
-    let fits : T e = le→leb (length (saved (state_of m))) room (omega arith) in
-    rw (all_yes (write_questions c ins m room) (T-both a (b && (d && e && true)) tc (T-both b (d && e && true) gi (T-both (d && e) true (T-both d e g fits) tt))))
+    let fits = le→leb (length (saved (state_of m))) room (omega arith) in
+    let tests = good_table c ∷ good_inputs ins ∷ (good_memory (program_of c) ins m && leb (length (saved (state_of m))) room) ∷ [] in
+    rw (all_yes (write_questions c ins m room) (parts tests (tc, (gi, (T-both (good_memory (program_of c) ins m) (leb (length (saved (state_of m))) room) g fits, tt)))))

@@ -1,10 +1,8 @@
 -- The frames that a well-formed memory has are those of its state.
 use Rattle.std.specs.Prelude.{◌≡◌, ℕ, ◌*◌, T, length, get_or, take, drop}
 use Rattle.std.proofs.Math.Path.{refl, ap}
-use Rattle.std.proofs.Common.{sym, ◌∙◌, arith, drop_at, drop-drop, get_or-drop, take-take}
-use mathlib.Core.List.{List, [], ◌∷◌, ◌++◌, map, append_assoc}
-use Rattle.std.proofs.Math.ListN.{length-append}
-use Rattle.std.proofs.Math.Seq.{take_at}
+use Rattle.std.proofs.Common.{sym, ◌∙◌, arith, drop-drop, get_or-drop, take-take}
+use mathlib.Core.List.{List, [], ◌∷◌, ◌++◌, map}
 use Rattle.language.specs.Limits as limit
 use Rattle.lists.specs.Lists.{each}
 use Rattle.language.specs.Program.{Program}
@@ -12,9 +10,8 @@ use Rattle.language.specs.Values.{File, State, Inputs}
 use Rattle.machine.specs.WellFormed.{good_program, good_inputs}
 use Rattle.layout.specs.Bounds.{Fine}
 use Rattle.layout.specs.Cells.{two, three}
-use Rattle.layout.specs.Components.{components_bytes}
 use Rattle.layout.specs.Memory.{file_strings, strings, state_cells, state_of, good_memory}
-use Rattle.layout.proofs.MemoryLaws.{length-E, length-F, memory-facts, memory-fine, memory-strings}
+use Rattle.layout.proofs.MemoryLaws.{take-E, drop-E, drop-F, memory-facts, memory-fine, memory-strings}
 use Rattle.state_frames.specs.Frames.{framed}
 use Rattle.state_frames.specs.Saved.{head_count, head_numbers, file_bytes, numbered, slots}
 use Rattle.state_frames.specs.MemoryFrames.{files_by, slots_by, slots_in}
@@ -25,39 +22,22 @@ files_by-strings [] t = refl
 files_by-strings (f ∷ fs) t = ap (λ cs. file_bytes f ∷ cs) (files_by-strings fs t)
 
 module _ (s : State) (f : Fine s) where
-  abbrev E : List (List ℕ)
-  E = map components_bytes s.store.exprs
-
-  abbrev F : List (List ℕ)
-  F = file_strings s.store.files
-
-  abbrev R : List (List ℕ)
-  R = each two s.stack ∷ s.store.outputs
-
-  exprs-are : take limit.expressions (strings s) ≡ E
-  unfolding strings
-  exprs-are = take_at E (F ++ R) 32 (length-E s f)
-
   files-are : files_by limit.files (drop 32 (strings s)) ≡ map file_bytes s.store.files
-  unfolding strings
   files-are =
-      ap (files_by limit.files) (drop_at E (F ++ R) 32 (length-E s f)) ∙ ap (λ (n : ℕ). files_by n (F ++ R)) (sym f.files_is) ∙ files_by-strings s.store.files R
-
-  rest_is : drop 96 (strings s) ≡ R
-  unfolding strings
-  rest_is = rw (← append_assoc E F R) (drop_at (E ++ F) R 96 (simp length-append (omega (arith, length-E s f, length-F s f))))
+      let rest = each two s.stack ∷ s.store.outputs in
+      ap (files_by limit.files) (drop-E s f) ∙ ap (λ (n : ℕ). files_by n (file_strings s.store.files ++ rest)) (sym f.files_is) ∙ files_by-strings s.store.files rest
 
   outputs_are : drop 97 (strings s) ≡ s.store.outputs
-  outputs_are = sym (drop-drop 1 96 (strings s)) ∙ ap (drop 1) rest_is
+  outputs_are = sym (drop-drop 1 96 (strings s)) ∙ ap (drop 1) (drop-F s f)
 
   stack_is : get_or (strings s) 96 [] ≡ each two s.stack
-  stack_is = sym (get_or-drop 96 (strings s) 0 []) ∙ ap (λ vs. get_or vs 0 []) rest_is
+  stack_is = sym (get_or-drop 96 (strings s) 0 []) ∙ ap (λ vs. get_or vs 0 []) (drop-F s f)
 
   -- the strings and the head's bytes say all frames
   pub slots_by-strings : slots_by (each three (head_numbers s)) (strings s) ≡ slots s
   unfolding slots_by slots
   slots_by-strings =
-      let a = exprs-are in
+      let a = take-E s f in
       let b = files-are in
       let c = outputs_are in
       let d = stack_is in

@@ -3,55 +3,33 @@ use Rattle.std.specs.Prelude.{◌≡◌, ◌⊎◌, ◌↔◌, Bool, true, cond,
 use Rattle.std.proofs.Math.Path.{refl, sym, ap, subst}
 use Rattle.std.proofs.Common.{◌∙◌, inl, inr, ⊎_elim, eq-or-lt_of_le, arith, eqb→eq, ltb→lt, leb→le}
 use Rattle.std.proofs.Math.Bool.{false}
-use mathlib.Core.List.{List, [], ◌∷◌, ◌++◌, map, append-nil}
+use mathlib.Core.List.{List, [], ◌∷◌, ◌++◌, append-nil}
 use Rattle.std.proofs.Math.Dec.{T}
 use Rattle.std.proofs.lemmas.List.{length-map}
 use borrow.Author.Tests.{eqb-true, eqb-false, eq-eqb, lt-ltb, le-leb}
+use Rattle.layout.specs.EachLaws.{each_map}
+use Rattle.lists.specs.AppendLaws.{all_append, any_left, any-right}
+use Rattle.lists.specs.BoolLaws.{T-second, T-either}
 use Rattle.language.specs.Limits as limit
 use Rattle.characters.specs.Characters.{between}
 use Rattle.lists.specs.ListLaws.{T-left, T-right, T-both, all_head, all_tail, all_keep}
-use Rattle.lists.specs.Lists.{all, any, keep, each}
+use Rattle.lists.specs.Lists.{all, any, keep}
 use Rattle.language.specs.Program.{Program}
 use Rattle.language.specs.Values.{State, Inputs}
 use Rattle.machine.specs.WellFormed.{good_state}
 use Rattle.machine.proofs.WellFormedLaws.{open-store, open-state}
 use Rattle.layout.specs.Bounds.{Each}
-use Rattle.layout.specs.Cells.{two, three}
 use Rattle.layout.specs.Components.{components_bytes}
 use lib.Ieee.Bits.{is_true}
 use Rattle.state_frames.specs.Frames.{Frame, framed, same_frames}
-use Rattle.state_frames.proofs.FrameLaws.{each-path, same_frames-eq, same_frames-refl}
-use Rattle.state_frames.specs.Saved.{head_numbers, file_bytes, numbered, slots, nonempty, frames_of, is_at, contents_at, restored, well_framed}
+use Rattle.state_frames.proofs.FrameLaws.{same_frames-eq, same_frames-refl}
+use Rattle.state_frames.specs.Saved.{head_bytes, expressions_bytes, files_bytes, stack_bytes, file_bytes, numbered, slots, nonempty, frames_of, is_at, contents_at, restored, well_framed}
 use Rattle.state_frames.proofs.SavedLaws.{contents-keep}
 use Rattle.state_frames.specs.Order.{precedes, rising, listed, Found, InForm}
 
 -- ---- tests
 
-either : {X : Type 0} (a b : Bool) → T (a || b) → (T a → X) → (T b → X) → X
-either true b h f g = f tt
-either false b h f g = g h
-
-T-right-or : (a b : Bool) → T b → T (a || b)
-T-right-or true b h = tt
-T-right-or false b h = h
-
 module _ {X : Type 0} (q : X → Bool) where
-  all_append : (xs ys : List X) → T (all q xs) → T (all q ys) → T (all q (xs ++ ys))
-  all_append [] ys h k = k
-  all_append (x ∷ xs) ys h k = T-both (q x) (all q (xs ++ ys)) (all_head q x xs h) (all_append xs ys (all_tail q x xs h) k)
-
-  any_left : (xs ys : List X) → T (any q xs) → T (any q (xs ++ ys))
-  any_left [] ys h = absurd h
-  any_left (x ∷ xs) ys h = go (q x) h (any_left xs ys)
-    where
-      go : (b : Bool) → T (b || any q xs) → (T (any q xs) → T (any q (xs ++ ys))) → T (b || any q (xs ++ ys))
-      go true h k = tt
-      go false h k = k h
-
-  any-right : (xs ys : List X) → T (any q ys) → T (any q (xs ++ ys))
-  any-right [] ys h = h
-  any-right (x ∷ xs) ys h = T-right-or (q x) (any q (xs ++ ys)) (any-right xs ys h)
-
   all-kept : (xs : List X) → T (all q (keep q xs))
   all-kept [] = tt
   all-kept (x ∷ xs) = go (q x) refl (all-kept xs)
@@ -71,7 +49,7 @@ precedes-lower f g h =
     let a = ltb f.kind g.kind in
     let b = eqb f.kind g.kind in
     let c = ltb f.index g.index in
-    either a (b && c) h (λ t. inl (ltb→lt f.kind g.kind t)) (λ t. inr (eqb→eq f.kind g.kind (T-left b c t), ltb→lt f.index g.index (T-right b c t)))
+    T-either a (b && c) h (λ t. inl (ltb→lt f.kind g.kind t)) (λ t. inr (eqb→eq f.kind g.kind (T-left b c t), ltb→lt f.index g.index (T-right b c t)))
 
 pub lower-precedes : (f g : Frame) → Lower f g → T (precedes f g)
 unfolding precedes
@@ -79,7 +57,7 @@ lower-precedes f g (inl h) = rw (lt-ltb f.kind g.kind h) tt
 lower-precedes f g (inr h) =
     let a = eq-eqb f.kind g.kind h.0 in
     let b = lt-ltb f.index g.index h.1 in
-    T-right-or (ltb f.kind g.kind) (eqb f.kind g.kind && ltb f.index g.index) (rw (a, b) tt)
+    T-second (ltb f.kind g.kind) (eqb f.kind g.kind && ltb f.index g.index) (rw (a, b) tt)
 
 lower-trans : (f g h : Frame) → Lower f g → Lower g h → Lower f h
 lower-trans f g h (inl a) (inl b) = inl (omega arith)
@@ -175,7 +153,7 @@ precedes-by : (g f : Frame) (ss : List Frame) → T (all (precedes g) ss) → Pl
 precedes-by g f [] h k = absurd k
 precedes-by g f (s ∷ ss) h k =
     let a = all_head (precedes g) s ss h in
-    either (at f s) (any (at f) ss) k
+    T-either (at f s) (any (at f) ss) k
     (λ t. let e = at_same f s t in unfold precedes in rw (e.0, e.1) a)
     (λ t. precedes-by g f ss (all_tail (precedes g) s ss h) t)
 
@@ -291,7 +269,7 @@ numbered-any g k n (c ∷ cs) e a b = go (eqb g.index n) refl (numbered-any g k 
     go false q h =
         let d : g.index ≡ n → ⊥ = eqb-false g.index n q in
         let l : suc n ≤ g.index = not_first g.index n a d in
-        T-right-or (at g (framed k n c)) (any (at g) (numbered k (suc n) cs)) (h l (omega arith))
+        T-second (at g (framed k n c)) (any (at g) (numbered k (suc n) cs)) (h l (omega arith))
 
 -- frames of a lower kind come first
 rising-append : (fs gs : List Frame) → T (rising fs) → T (rising gs) → Each (λ f. T (all (precedes f) gs)) fs → T (rising (fs ++ gs))
@@ -309,58 +287,43 @@ lower-kind : (f : Frame) (k n : ℕ) (cs : List (List ℕ)) → f.kind < k → T
 lower-kind f k n cs h = numbered-all k (precedes f) n cs (λ i c a b. lower-precedes f (framed k i c) (inl h))
 
 module _ (s : State) where
-  abbrev H : List ℕ
-  H = each three (head_numbers s)
-
-  abbrev E : List (List ℕ)
-  E = map components_bytes s.store.exprs
-
-  abbrev F : List (List ℕ)
-  F = map file_bytes s.store.files
-
-  abbrev Q : List (List ℕ)
-  Q = s.store.outputs
-
-  abbrev R : List ℕ
-  R = each two s.stack
-
   abbrev N5 : List Frame
-  N5 = framed 5 0 R ∷ []
+  N5 = framed 5 0 (stack_bytes s) ∷ []
 
   abbrev N4 : List Frame
-  N4 = numbered 4 1 Q
+  N4 = numbered 4 1 s.store.outputs
 
   abbrev N3 : List Frame
-  N3 = numbered 3 1 F
+  N3 = numbered 3 1 (files_bytes s)
 
   abbrev N2 : List Frame
-  N2 = numbered 2 1 E
+  N2 = numbered 2 1 (expressions_bytes s)
 
   before-5 : (f : Frame) → f.kind < 5 → T (all (precedes f) N5)
-  before-5 f h = T-both (precedes f (framed 5 0 R)) true (lower-precedes f (framed 5 0 R) (inl h)) tt
+  before-5 f h = T-both (precedes f (framed 5 0 (stack_bytes s))) true (lower-precedes f (framed 5 0 (stack_bytes s)) (inl h)) tt
 
   before-4 : (f : Frame) → f.kind < 4 → T (all (precedes f) (N4 ++ N5))
-  before-4 f h = all_append (precedes f) N4 N5 (lower-kind f 4 1 Q h) (before-5 f (omega arith))
+  before-4 f h = all_append (precedes f) N4 N5 (lower-kind f 4 1 s.store.outputs h) (before-5 f (omega arith))
 
   before-3 : (f : Frame) → f.kind < 3 → T (all (precedes f) (N3 ++ (N4 ++ N5)))
-  before-3 f h = all_append (precedes f) N3 (N4 ++ N5) (lower-kind f 3 1 F h) (before-4 f (omega arith))
+  before-3 f h = all_append (precedes f) N3 (N4 ++ N5) (lower-kind f 3 1 (files_bytes s) h) (before-4 f (omega arith))
 
   before-2 : (f : Frame) → f.kind < 2 → T (all (precedes f) (N2 ++ (N3 ++ (N4 ++ N5))))
-  before-2 f h = all_append (precedes f) N2 (N3 ++ (N4 ++ N5)) (lower-kind f 2 1 E h) (before-3 f (omega arith))
+  before-2 f h = all_append (precedes f) N2 (N3 ++ (N4 ++ N5)) (lower-kind f 2 1 (expressions_bytes s) h) (before-3 f (omega arith))
 
   pub slots_rise : T (rising (slots s))
   unfolding slots
   slots_rise =
-      let r4 = rising-append N4 N5 (numbered-rising 4 1 Q) tt (numbered-each (λ f. T (all (precedes f) N5)) 4 1 Q (λ i c. before-5 (framed 4 i c) (omega arith))) in
-      let r3 = rising-append N3 (N4 ++ N5) (numbered-rising 3 1 F) r4 (numbered-each (λ f. T (all (precedes f) (N4 ++ N5))) 3 1 F (λ i c. before-4 (framed 3 i c) (omega arith))) in
-      let r2 = rising-append N2 (N3 ++ (N4 ++ N5)) (numbered-rising 2 1 E) r3 (numbered-each (λ f. T (all (precedes f) (N3 ++ (N4 ++ N5)))) 2 1 E (λ i c. before-3 (framed 2 i c) (omega arith))) in
-      T-both (all (precedes (framed 1 0 H)) (N2 ++ (N3 ++ (N4 ++ N5)))) (rising (N2 ++ (N3 ++ (N4 ++ N5)))) (before-2 (framed 1 0 H) (omega arith)) r2
+      let r4 = rising-append N4 N5 (numbered-rising 4 1 s.store.outputs) tt (numbered-each (λ f. T (all (precedes f) N5)) 4 1 s.store.outputs (λ i c. before-5 (framed 4 i c) (omega arith))) in
+      let r3 = rising-append N3 (N4 ++ N5) (numbered-rising 3 1 (files_bytes s)) r4 (numbered-each (λ f. T (all (precedes f) (N4 ++ N5))) 3 1 (files_bytes s) (λ i c. before-4 (framed 3 i c) (omega arith))) in
+      let r2 = rising-append N2 (N3 ++ (N4 ++ N5)) (numbered-rising 2 1 (expressions_bytes s)) r3 (numbered-each (λ f. T (all (precedes f) (N3 ++ (N4 ++ N5)))) 2 1 (expressions_bytes s) (λ i c. before-3 (framed 2 i c) (omega arith))) in
+      T-both (all (precedes (framed 1 0 (head_bytes s))) (N2 ++ (N3 ++ (N4 ++ N5)))) (rising (N2 ++ (N3 ++ (N4 ++ N5)))) (before-2 (framed 1 0 (head_bytes s)) (omega arith)) r2
 
   module _ (e : length s.store.exprs ≡ limit.expressions) (f : length s.store.files ≡ limit.files) (o : length s.store.outputs ≡ limit.outputs) where
-    length-E : length E ≡ limit.expressions
+    length-E : length (expressions_bytes s) ≡ limit.expressions
     length-E = length-map s.store.exprs components_bytes ∙ e
 
-    length-F : length F ≡ limit.files
+    length-F : length (files_bytes s) ≡ limit.files
     length-F = length-map s.store.files file_bytes ∙ f
 
     -- every slot is listed
@@ -369,9 +332,9 @@ module _ (s : State) where
     slots-listed =
         let l2 = length-E in
         let l3 = length-F in
-        let a2 = numbered-all 2 listed 1 E (λ i c a b. let x = le-leb 1 i a in let y = le-leb i limit.expressions (omega arith) in rw (x, y) tt) in
-        let a3 = numbered-all 3 listed 1 F (λ i c a b. let x = le-leb 1 i a in let y = le-leb i limit.files (omega arith) in rw (x, y) tt) in
-        let a4 = numbered-all 4 listed 1 Q (λ i c a b. let x = le-leb 1 i a in let y = le-leb i limit.outputs (omega arith) in rw (x, y) tt) in
+        let a2 = numbered-all 2 listed 1 (expressions_bytes s) (λ i c a b. let x = le-leb 1 i a in let y = le-leb i limit.expressions (omega arith) in rw (x, y) tt) in
+        let a3 = numbered-all 3 listed 1 (files_bytes s) (λ i c a b. let x = le-leb 1 i a in let y = le-leb i limit.files (omega arith) in rw (x, y) tt) in
+        let a4 = numbered-all 4 listed 1 s.store.outputs (λ i c a b. let x = le-leb 1 i a in let y = le-leb i limit.outputs (omega arith) in rw (x, y) tt) in
         all_append listed N2 (N3 ++ (N4 ++ N5)) a2 (all_append listed N3 (N4 ++ N5) a3 (all_append listed N4 N5 a4 tt))
 
     -- and every listed kind and index is that of a slot
@@ -393,26 +356,26 @@ module _ (s : State) where
           let t = T-right x (y && z) h in
           (eqb→eq g.kind k (T-left x (y && z) h), leb→le a g.index (T-left y z t), leb→le g.index b (T-right y z t))
 
-      at_head : T (eqb g.kind 1 && between 0 0 g.index) → T (at g (framed 1 0 H) || any (at g) N2345)
-      at_head h = let r = in_range 1 0 0 h in let i : g.index ≡ 0 = omega (arith, r.2) in let x = at_true g (framed 1 0 H) r.0 i in rw x tt
+      at_head : T (eqb g.kind 1 && between 0 0 g.index) → T (at g (framed 1 0 (head_bytes s)) || any (at g) N2345)
+      at_head h = let r = in_range 1 0 0 h in let i : g.index ≡ 0 = omega (arith, r.2) in let x = at_true g (framed 1 0 (head_bytes s)) r.0 i in rw x tt
 
       at-expr : T (eqb g.kind 2 && between 1 limit.expressions g.index) → T (any (at g) N2345)
       at-expr h =
           let r = in_range 2 1 limit.expressions h in
-          any_left (at g) N2 N345 (numbered-any g 2 1 E r.0 r.1 (omega (arith, r.2, length-E)))
+          any_left (at g) N2 N345 (numbered-any g 2 1 (expressions_bytes s) r.0 r.1 (omega (arith, r.2, length-E)))
 
       at-file : T (eqb g.kind 3 && between 1 limit.files g.index) → T (any (at g) N345)
       at-file h =
           let r = in_range 3 1 limit.files h in
-          any_left (at g) N3 N45 (numbered-any g 3 1 F r.0 r.1 (omega (arith, r.2, length-F)))
+          any_left (at g) N3 N45 (numbered-any g 3 1 (files_bytes s) r.0 r.1 (omega (arith, r.2, length-F)))
 
       at-output : T (eqb g.kind 4 && between 1 limit.outputs g.index) → T (any (at g) N45)
       at-output h =
           let r = in_range 4 1 limit.outputs h in
-          any_left (at g) N4 N5 (numbered-any g 4 1 Q r.0 r.1 (omega (arith, r.2, o)))
+          any_left (at g) N4 N5 (numbered-any g 4 1 s.store.outputs r.0 r.1 (omega (arith, r.2, o)))
 
       at-stack : T (eqb g.kind 5 && between 0 0 g.index) → T (any (at g) N5)
-      at-stack h = let r = in_range 5 0 0 h in let i : g.index ≡ 0 = omega (arith, r.2) in let x = at_true g (framed 5 0 R) r.0 i in rw x tt
+      at-stack h = let r = in_range 5 0 0 h in let i : g.index ≡ 0 = omega (arith, r.2) in let x = at_true g (framed 5 0 (stack_bytes s)) r.0 i in rw x tt
 
       abbrev r1 : Bool
       r1 = eqb g.kind 1 && between 0 0 g.index
@@ -432,14 +395,14 @@ module _ (s : State) where
       listed-placed : T (listed g) → Placed (slots s) g
       unfolding slots listed
       listed-placed h =
-          either r1 (r2 || (r3 || (r4 || (r5 || false)))) h at_head
-          (λ h2. T-right-or (at g (framed 1 0 H)) (any (at g) N2345)
-          (either r2 (r3 || (r4 || (r5 || false))) h2 at-expr
+          T-either r1 (r2 || (r3 || (r4 || (r5 || false)))) h at_head
+          (λ h2. T-second (at g (framed 1 0 (head_bytes s))) (any (at g) N2345)
+          (T-either r2 (r3 || (r4 || (r5 || false))) h2 at-expr
           (λ h3. any-right (at g) N2 N345
-          (either r3 (r4 || (r5 || false)) h3 at-file
+          (T-either r3 (r4 || (r5 || false)) h3 at-file
           (λ h4. any-right (at g) N3 N45
-          (either r4 (r5 || false) h4 at-output
-          (λ h5. any-right (at g) N4 N5 (either r5 false h5 at-stack (λ z. absurd z)))))))))
+          (T-either r4 (r5 || false) h4 at-output
+          (λ h5. any-right (at g) N4 N5 (T-either r5 false h5 at-stack (λ z. absurd z)))))))))
 
     all_placed : (fs : List Frame) → T (all listed fs) → Each (Placed (slots s)) fs
     all_placed [] h = tt
@@ -471,7 +434,7 @@ module _ (p : Program) (ins : Inputs) (fs : List Frame) where
         none_empty = subst (λ (x : List Frame). T (all nonempty x)) back (all-kept nonempty (slots s));
         head_there = subst (λ (x : List Frame). T (any (is_at 1 0) x)) back (unfold slots in tt);
         laid_out =
-            each-path (Found (slots s)) (Found fs)
+            each_map (Found (slots s)) (Found fs)
             (λ x q. ap (contents_at x.kind x.index) is ∙ contents-keep x.kind x.index (slots s) ∙ q)
             (slots s) (rising-found (slots s) r);
         well_formed = g;

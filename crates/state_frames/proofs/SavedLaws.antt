@@ -8,6 +8,7 @@ use Rattle.std.proofs.Math.Dec.{eqb}
 use Rattle.std.proofs.Math.ListN.{length, length-map}
 use Rattle.std.proofs.Math.Seq.{take-append_seam, drop-append_seam}
 use borrow.Author.Tests.{eq-eqb, ne_eqb}
+use Rattle.layout.specs.EachLaws.{each_keep}
 use Rattle.language.specs.Limits as limit
 use Rattle.lists.specs.Lists.{filled, keep, each}
 use Rattle.language.specs.Program.{Program}
@@ -24,7 +25,7 @@ use Rattle.layout.proofs.StringLaws.{strings-short}
 use Rattle.layout.specs.Strings.{string_cells}
 use Rattle.state_frames.specs.Frames.{Frame, framed}
 use Rattle.state_frames.proofs.FrameLaws.{FrameOk}
-use Rattle.state_frames.specs.Saved.{head_count, head_numbers, file_contents, file_bytes, numbered, slots, nonempty, frames_of, is_at, contents_at, contents_of, halves, strings_by, numbers_in, numbers_by, restored}
+use Rattle.state_frames.specs.Saved.{head_bytes, expressions_bytes, files_bytes, stack_bytes, head_count, head_numbers, file_contents, file_bytes, numbered, slots, nonempty, frames_of, is_at, contents_at, contents_of, halves, strings_by, numbers_in, numbers_by, restored}
 
 -- ---- contents by kind and index
 
@@ -106,59 +107,44 @@ halves-of-files (f ∷ fs) =
 -- ---- the frames of a state
 
 module _ (s : State) where
-  abbrev H : List ℕ
-  H = each three (head_numbers s)
-
-  abbrev E : List (List ℕ)
-  E = map components_bytes s.store.exprs
-
-  abbrev F : List (List ℕ)
-  F = map file_bytes s.store.files
-
-  abbrev Q : List (List ℕ)
-  Q = s.store.outputs
-
-  abbrev R : List ℕ
-  R = each two s.stack
-
   -- what each part of the slots gives
   slots_at : (k i : ℕ) → contents_at k i (frames_of s)
-      ≡ cond (is_at k i (framed 1 0 H)) H [] ++ (contents_at k i (numbered 2 1 E) ++ (contents_at k i (numbered 3 1 F) ++ (contents_at k i (numbered 4 1 Q) ++ (cond (is_at k i (framed 5 0 R)) R [] ++ []))))
+      ≡ cond (is_at k i (framed 1 0 (head_bytes s))) (head_bytes s) [] ++ (contents_at k i (numbered 2 1 (expressions_bytes s)) ++ (contents_at k i (numbered 3 1 (files_bytes s)) ++ (contents_at k i (numbered 4 1 s.store.outputs) ++ (cond (is_at k i (framed 5 0 (stack_bytes s))) (stack_bytes s) [] ++ []))))
   unfolding frames_of slots contents_at
   slots_at k i =
-      let N2 = numbered 2 1 E in
-      let N3 = numbered 3 1 F in
-      let N4 = numbered 4 1 Q in
-      let N5 : List Frame = framed 5 0 R ∷ [] in
+      let N2 = numbered 2 1 (expressions_bytes s) in
+      let N3 = numbered 3 1 (files_bytes s) in
+      let N4 = numbered 4 1 s.store.outputs in
+      let N5 : List Frame = framed 5 0 (stack_bytes s) ∷ [] in
       contents-keep k i (slots s)
-      ∙ ap (λ (t : List ℕ). cond (is_at k i (framed 1 0 H)) H [] ++ t)
+      ∙ ap (λ (t : List ℕ). cond (is_at k i (framed 1 0 (head_bytes s))) (head_bytes s) [] ++ t)
       (contents-append k i N2 (N3 ++ (N4 ++ N5))
       ∙ ap (λ (t : List ℕ). contents_at k i N2 ++ t) (contents-append k i N3 (N4 ++ N5) ∙ ap (λ (t : List ℕ). contents_at k i N3 ++ t) (contents-append k i N4 N5)))
 
-  pub head_at : contents_at 1 0 (frames_of s) ≡ H
+  pub head_at : contents_at 1 0 (frames_of s) ≡ (head_bytes s)
   head_at =
       slots_at 1 0
-      ∙ rw (contents-other 1 0 2 1 E refl, contents-other 1 0 3 1 F refl, contents-other 1 0 4 1 Q refl) (append-nil H)
+      ∙ rw (contents-other 1 0 2 1 (expressions_bytes s) refl, contents-other 1 0 3 1 (files_bytes s) refl, contents-other 1 0 4 1 s.store.outputs refl) (append-nil (head_bytes s))
 
-  pub expr-at : (i : ℕ) → contents_at 2 (suc i) (frames_of s) ≡ get_or E i []
+  pub expr-at : (i : ℕ) → contents_at 2 (suc i) (frames_of s) ≡ get_or (expressions_bytes s) i []
   expr-at i =
       slots_at 2 (suc i)
-      ∙ rw (contents-other 2 (suc i) 3 1 F refl, contents-other 2 (suc i) 4 1 Q refl, numbered-at 2 i E) (append-nil (get_or E i []))
+      ∙ rw (contents-other 2 (suc i) 3 1 (files_bytes s) refl, contents-other 2 (suc i) 4 1 s.store.outputs refl, numbered-at 2 i (expressions_bytes s)) (append-nil (get_or (expressions_bytes s) i []))
 
-  pub file-at : (i : ℕ) → contents_at 3 (suc i) (frames_of s) ≡ get_or F i []
+  pub file-at : (i : ℕ) → contents_at 3 (suc i) (frames_of s) ≡ get_or (files_bytes s) i []
   file-at i =
       slots_at 3 (suc i)
-      ∙ rw (contents-other 3 (suc i) 2 1 E refl, contents-other 3 (suc i) 4 1 Q refl, numbered-at 3 i F) (append-nil (get_or F i []))
+      ∙ rw (contents-other 3 (suc i) 2 1 (expressions_bytes s) refl, contents-other 3 (suc i) 4 1 s.store.outputs refl, numbered-at 3 i (files_bytes s)) (append-nil (get_or (files_bytes s) i []))
 
-  pub output-at : (i : ℕ) → contents_at 4 (suc i) (frames_of s) ≡ get_or Q i []
+  pub output-at : (i : ℕ) → contents_at 4 (suc i) (frames_of s) ≡ get_or s.store.outputs i []
   output-at i =
       slots_at 4 (suc i)
-      ∙ rw (contents-other 4 (suc i) 2 1 E refl, contents-other 4 (suc i) 3 1 F refl, numbered-at 4 i Q) (append-nil (get_or Q i []))
+      ∙ rw (contents-other 4 (suc i) 2 1 (expressions_bytes s) refl, contents-other 4 (suc i) 3 1 (files_bytes s) refl, numbered-at 4 i s.store.outputs) (append-nil (get_or s.store.outputs i []))
 
-  pub stack_at : contents_at 5 0 (frames_of s) ≡ R
+  pub stack_at : contents_at 5 0 (frames_of s) ≡ (stack_bytes s)
   stack_at =
       slots_at 5 0
-      ∙ rw (contents-other 5 0 2 1 E refl, contents-other 5 0 3 1 F refl, contents-other 5 0 4 1 Q refl) (append-nil R)
+      ∙ rw (contents-other 5 0 2 1 (expressions_bytes s) refl, contents-other 5 0 3 1 (files_bytes s) refl, contents-other 5 0 4 1 s.store.outputs refl) (append-nil (stack_bytes s))
 
   -- all of one kind
   all_of : (k n : ℕ) (cs : List (List ℕ)) → length cs ≡ n → ((i : ℕ) → contents_at k (suc i) (frames_of s) ≡ get_or cs i [])
@@ -170,16 +156,16 @@ module _ (s : State) where
     pub strings-back : strings_by (frames_of s) ≡ strings s
     unfolding strings_by strings
     strings-back =
-        let x = all_of 2 limit.expressions E (length-map s.store.exprs components_bytes ∙ f.exprs_is) expr-at in
-        let y = all_of 3 limit.files F (length-map s.store.files file_bytes ∙ f.files_is) file-at in
+        let x = all_of 2 limit.expressions (expressions_bytes s) (length-map s.store.exprs components_bytes ∙ f.exprs_is) expr-at in
+        let y = all_of 3 limit.files (files_bytes s) (length-map s.store.files file_bytes ∙ f.files_is) file-at in
         let y' = ap (each halves) y ∙ halves-of-files s.store.files in
-        let z = all_of 4 limit.outputs Q f.outputs_is output-at in
+        let z = all_of 4 limit.outputs s.store.outputs f.outputs_is output-at in
         let r = stack_at in
         λ j. x j ++ (y' j ++ (r j ∷ z j))
 
     pub numbers-back : numbers_by (frames_of s) ≡ head_numbers s
     unfolding numbers_by
-    numbers-back = ap numbers_in (head_at ∙ sym (append-nil H)) ∙ threes-back (head_numbers s) []
+    numbers-back = ap numbers_in (head_at ∙ sym (append-nil (head_bytes s))) ∙ threes-back (head_numbers s) []
 
     -- "A state written and read back" is that state
     pub restored-back : restored (frames_of s) ≡ s
@@ -200,14 +186,6 @@ numbered-ok k n (c ∷ cs) b h r = (
   record { kind_below = b; index_below = omega (arith, h); length_below = r.0.short; contents_below = r.0.below },
   numbered-ok k (suc n) cs b (omega (arith, h)) r.1,
 )
-
-keep-each : {X : Type 0} (P : X → Type 0) (q : X → Bool) (xs : List X) → Each P xs → Each P (keep q xs)
-keep-each P q [] h = tt
-keep-each P q (x ∷ xs) h = go (q x) (keep-each P q xs h.1)
-  where
-    go : (b : Bool) → Each P (keep q xs) → Each P (cond b (x ∷ keep q xs) (keep q xs))
-    go true k = (h.0, k)
-    go false k = k
 
 -- each string is shorter than half of what a frame may hold
 abbrev Short : List ℕ → Type 0
@@ -254,9 +232,9 @@ module _ (p : Program) (ins : Inputs) (s : State) (gp : T (good_program p)) (gi 
   slots-ok : Each FrameOk (slots s)
   unfolding slots strings
   slots-ok =
-      let A = E s in
+      let A = expressions_bytes s in
       let B = file_strings s.store.files in
-      let C = R s ∷ Q s in
+      let C = stack_bytes s ∷ s.store.outputs in
       let short : Each Short (strings s) = strings-short (strings s) 32000 (omega (arith, fine-room s fine)) in
       let below : Each (Below 256) (strings s) = good-strings-below p ins s gp gi g in
       let short-B = each_right Short A (B ++ C) short in
@@ -267,20 +245,20 @@ module _ (p : Program) (ins : Inputs) (s : State) (gp : T (good_program p)) (gi 
       let fs = file-rooms s.store.files (each_left Short B C short-B) (each_left (Below 256) B C below-B) in
       let rs = rooms C short-C below-C in
       let l2 : length A ≡ limit.expressions = length-map s.store.exprs components_bytes ∙ fine.exprs_is in
-      let l3 : length (F s) ≡ limit.files = length-map s.store.files file_bytes ∙ fine.files_is in
+      let l3 : length (files_bytes s) ≡ limit.files = length-map s.store.files file_bytes ∙ fine.files_is in
       let l4 = fine.outputs_is in
       let N2 = numbered 2 1 A in
-      let N3 = numbered 3 1 (F s) in
-      let N4 = numbered 4 1 (Q s) in
-      let N5 : List Frame = framed 5 0 (R s) ∷ [] in
-      let head : FrameOk (framed 1 0 (H s)) = record { kind_below = omega arith; index_below = omega arith; length_below = omega arith; contents_below = head-below } in
-      let stack : FrameOk (framed 5 0 (R s)) = record { kind_below = omega arith; index_below = omega arith; length_below = rs.0.short; contents_below = rs.0.below } in (
+      let N3 = numbered 3 1 (files_bytes s) in
+      let N4 = numbered 4 1 s.store.outputs in
+      let N5 : List Frame = framed 5 0 (stack_bytes s) ∷ [] in
+      let head : FrameOk (framed 1 0 (head_bytes s)) = record { kind_below = omega arith; index_below = omega arith; length_below = omega arith; contents_below = head-below } in
+      let stack : FrameOk (framed 5 0 (stack_bytes s)) = record { kind_below = omega arith; index_below = omega arith; length_below = rs.0.short; contents_below = rs.0.below } in (
         head,
         each_append FrameOk N2 (N3 ++ (N4 ++ N5)) (numbered-ok 2 1 A (omega arith) (omega arith) es)
-            (each_append FrameOk N3 (N4 ++ N5) (numbered-ok 3 1 (F s) (omega arith) (omega arith) fs)
-            (each_append FrameOk N4 N5 (numbered-ok 4 1 (Q s) (omega arith) (omega arith) rs.1) (stack, tt))),
+            (each_append FrameOk N3 (N4 ++ N5) (numbered-ok 3 1 (files_bytes s) (omega arith) (omega arith) fs)
+            (each_append FrameOk N4 N5 (numbered-ok 4 1 s.store.outputs (omega arith) (omega arith) rs.1) (stack, tt))),
       )
 
   pub frames-ok : Each FrameOk (frames_of s)
   unfolding frames_of
-  frames-ok = keep-each FrameOk nonempty (slots s) slots-ok
+  frames-ok = each_keep FrameOk nonempty (slots s) slots-ok

@@ -31,14 +31,24 @@ unfoldable pub numbered : ℕ → ℕ → List (List ℕ) → List Frame
 numbered k n [] = []
 numbered k n (c ∷ cs) = framed k n c ∷ numbered k (suc n) cs
 
+-- their contents
+abbrev pub head_bytes : State → List ℕ
+head_bytes s = each three (head_numbers s)
+
+abbrev pub expressions_bytes : State → List (List ℕ)
+expressions_bytes s = map components_bytes s.store.exprs
+
+abbrev pub files_bytes : State → List (List ℕ)
+files_bytes s = map file_bytes s.store.files
+
+abbrev pub stack_bytes : State → List ℕ
+stack_bytes s = each two s.stack
+
 -- "Frames rise by kind, then by index (0 for 01 and 05)". Empty ones too
 unfoldable pub slots : State → List Frame
 slots s =
-    framed head 0 (each three (head_numbers s))
-    ∷ (
-    numbered expression 1 (map components_bytes s.store.exprs)
-    ++ (numbered file 1 (map file_bytes s.store.files) ++ (numbered output 1 s.store.outputs ++ (framed stack 0 (each two s.stack) ∷ [])))
-    )
+    framed head 0 (head_bytes s)
+    ∷ (numbered expression 1 (expressions_bytes s) ++ (numbered file 1 (files_bytes s) ++ (numbered output 1 s.store.outputs ++ (framed stack 0 (stack_bytes s) ∷ []))))
 
 -- "Empty variables and an empty stack have no frame."
 abbrev pub nonempty : Frame → Bool

@@ -1,7 +1,7 @@
 -- The reader finds what the loops over places find: `items-found` carries the item at a place over to `read`. And how words meet their colons and
 -- statements part.
-use Rattle.std.specs.Prelude.{◌≡◌, refl, Bool, true, false, cond, ◌&&◌, ◌||◌, not, List, [], ◌∷◌, ◌++◌, ℕ, suc, ◌+◌, T, eqb, length, get_or, take, drop}
-use Rattle.std.proofs.Common.{sym, ap, subst, ◌∙◌, true≢false, append_assoc, append-nil, add-zero, le_refl, arith, eqb→eq, drop_of_length-le, drop-drop}
+use Rattle.std.specs.Prelude.{◌≡◌, refl, Bool, true, false, cond, ◌&&◌, ◌||◌, not, List, [], ◌∷◌, ◌++◌, ℕ, suc, ◌+◌, eqb, length, get_or, take, drop}
+use Rattle.std.proofs.Common.{sym, ap, ◌∙◌, true≢false, append_assoc, append-nil, add-zero, le_refl, arith, drop_of_length-le, drop-drop, eqb-true}
 use Rattle.std.proofs.lemmas.Bool.{false≢true}
 use Rattle.std.proofs.Math.Bool.{and-true, and-false, and_assoc}
 use Rattle.syntax.specs.Items.{Sort, sort_of, same_sort, Item, is, a_word, a_text, a_mark, ends_text, takes_next, char_of, allows, Mode, opens, begins, itself, mode_after, items_at, left_over, read}
@@ -26,18 +26,23 @@ unfolding read left_over word_length
 reads_word at n w [] = rw (append-nil w) refl
 reads_word at n w (b ∷ r) = word-step (same_sort word (sort_of b)) at n w b r refl (reads_word at (n + 1) (w ++ (b ∷ [])) r)
 
-equal : (m n : ℕ) → eqb m n ≡ true → m ≡ n
-equal m n h = eqb→eq m n (subst T (sym h) tt)
-
 -- a text ends at its apostrophe, or else at a new line
 first_of : (t u v : Bool) → (t || (u && v)) ≡ true → u ≡ false → t ≡ true
 first_of true u v e z = refl
 first_of false true v e z = absurd (true≢false z)
 first_of false false v e z = e
 
-new_line : (star : Bool) (b : ℕ) → ends_text star b ≡ true → eqb b 39 ≡ false → b ≡ 10
+pub new_line : (star : Bool) (b : ℕ) → ends_text star b ≡ true → eqb b 39 ≡ false → b ≡ 10
 unfolding ends_text
-new_line star b e z = equal b 10 (first_of (eqb b 10) (eqb b 39) (not star) e z)
+new_line star b e z = eqb-true b 10 (first_of (eqb b 10) (eqb b 39) (not star) e z)
+
+pub sort-word : (k : Sort) → same_sort word k ≡ true → k ≡ word
+sort-word separator h = absurd (false≢true h)
+sort-word word h = refl
+sort-word colon h = absurd (false≢true h)
+sort-word end h = absurd (false≢true h)
+sort-word text h = absurd (false≢true h)
+sort-word wrong h = absurd (false≢true h)
 
 -- What follows a text of n bytes whose end stands in front of r
 abbrev text_then : ℕ → ℕ → List ℕ → Bool → List ℕ → List Item
@@ -67,14 +72,14 @@ reads-text at n cs good star [] = rw (append-nil cs, and-true good, and-false go
 reads-text at n cs good star (b ∷ r) = text-step (ends_text star b) star at n cs good b r refl (λ m ds g d. reads-text at m ds g d r)
 
 -- Gaps: the reader stands outside or in a comment
-abbrev between_items : Mode → Bool
+abbrev pub between_items : Mode → Bool
 between_items outside = true
 between_items (in_word at w) = false
 between_items (in_comment at k) = true
 between_items (in_text at star cs good) = false
 
 -- a byte of a gap gives no item, and what follows it is between items too
-passed : (k : Sort) (n b next : ℕ) → passes k (opens b next) ≡ true → (itself k n b next ≡ []) × (between_items (begins k n b next) ≡ true)
+pub passed : (k : Sort) (n b next : ℕ) → passes k (opens b next) ≡ true → (itself k n b next ≡ []) × (between_items (begins k n b next) ≡ true)
 unfolding passes itself begins
 passed separator n b next h = (refl, refl)
 passed word n b next h = absurd (false≢true h)

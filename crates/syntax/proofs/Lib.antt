@@ -3,3 +3,4 @@ pub mod LetterLaws
 pub mod LoadLaws
 pub mod ReservedLaws
 pub mod LineLaws
+pub mod SortLaws

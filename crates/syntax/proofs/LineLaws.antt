@@ -7,7 +7,7 @@ use Rattle.language.specs.Limits as limit
 use Rattle.syntax.specs.Items.{line_of, up_from, lines_of}
 use Rattle.syntax.specs.Load.{Lined}
 
-length_up : (n : ℕ) (s : List ℕ) → length (up_from n s) ≡ length s
+pub length_up : (n : ℕ) (s : List ℕ) → length (up_from n s) ≡ length s
 unfolding up_from
 length_up n [] = refl
 length_up n (b ∷ s) = ap suc (length_up (suc n) s)
@@ -27,11 +27,11 @@ unfolding lines_of
 line-here s p d h = mapped_at (line_of s) 0 s p d h ∙ ap (line_of s) (omega arith)
 
 -- the lines of a text that is short enough are from 1 to 32,768
-line_low : (s : List ℕ) (p : ℕ) → line_of s p ≤ suc p
+pub line_low : (s : List ℕ) (p : ℕ) → line_of s p ≤ suc p
 unfolding line_of
 line_low s p = omega (arith, keep-few (eqb 10) (take p s), length-take p s)
 
-line-least : (s : List ℕ) (p : ℕ) → 0 < line_of s p
+pub line-least : (s : List ℕ) (p : ℕ) → 0 < line_of s p
 unfolding line_of
 line-least s p = omega arith
 

@@ -3,6 +3,9 @@
 use Rattle.std.specs.Prelude.{◌≡◌, refl, Bool, true, false, not, ◌||◌, List, [], ◌∷◌, ◌++◌, map, ℕ, suc, T, length, get_or, take, drop}
 use Rattle.std.proofs.Common.{ap, sym, ◌∙◌, arith}
 use Prim.Native.String.{String}
+use lib.Ieee.Bits.{is_true}
+use mathlib.Core.Bool.{or_assoc}
+use Rattle.std.proofs.lemmas.List.Elements.{filter_agree}
 use Rattle.language.specs.Below.Lists.{all, any, ahead, keep, bytes_equal}
 use Rattle.language.specs.Below.ListLaws.{all_head, all_tail}
 use Rattle.language.specs.Below.Quoted.{bytes}
@@ -50,12 +53,8 @@ found : {X : Type 0} (p q : X → Bool) (d : X) (xs : List X) → T (all q xs) �
 found p q d [] h e = e
 found p q d (x ∷ xs) h e = go (p x) (found p q d xs (all_tail q x xs h) e) (all_head q x xs h)
   where
-    here : (b : Bool) → T b → b ≡ true
-    here true h = refl
-    here false h = absurd h
-
     go : (b : Bool) → q (get_or xs (ahead p xs) d) ≡ any p xs → T (q x) → q (get_or (x ∷ xs) (elim b [ true ↦ 0 | false ↦ suc (ahead p xs) ]) d) ≡ (b || any p xs)
-    go true f h = here (q x) h
+    go true f h = is_true (q x) h
     go false f h = f
 
 any-spelled : (w : List ℕ) (rs ss : List (String × String × Keyword))
@@ -65,11 +64,7 @@ any-spelled w [] [] = refl
 any-spelled w [] (s ∷ ss) = ap (λ t. bytes_equal w (bytes s.1) || t) (any-spelled w [] ss)
 any-spelled w (r ∷ rs) ss =
     ap (λ t. bytes_equal w (bytes r.0) || t) (any-spelled w rs ss)
-    ∙ go (bytes_equal w (bytes r.0)) (any (bytes_equal w) (map (λ r. bytes r.0) rs)) (any (bytes_equal w) (map (λ r. bytes r.1) ss))
-  where
-    go : (a b c : Bool) → (a || (b || c)) ≡ ((a || b) || c)
-    go true b c = refl
-    go false b c = refl
+    ∙ sym (or_assoc (bytes_equal w (bytes r.0)) (any (bytes_equal w) (map (λ r. bytes r.0) rs)) (any (bytes_equal w) (map (λ r. bytes r.1) ss)))
 
 -- and if, as an operator, it is a keyword
 pub reserved-keyword : (i : Item) → is word i ≡ true → reserved i.chars ≡ not (same_keyword unknown (keyword_of i))
@@ -86,16 +81,12 @@ pub record Asked70 (d : Draft) (x : List Item) : Type 0 where
   pub order : map (λ q. q.number) (questions d x) ≡ 14 ∷ 15 ∷ 16 ∷ 0 ∷ 10 ∷ 8 ∷ 6 ∷ 70 ∷ 1 ∷ 2 ∷ 11 ∷ []
   pub stands : get_or (questions d x) 7 (ask 0 []) ≡ ask 70 (places (keep (λ l. any (in_pair l.chars) editions) (labels_in x)))
 
-keep-both : (p q : Item → Bool) → ((i : Item) → p i ≡ q i) → (is : List Item) → keep p is ≡ keep q is
-keep-both p q h [] = refl
-keep-both p q h (i ∷ js) = rw (h i, keep-both p q h js) refl
-
 pub asked-70 : (d : Draft) (x : List Item) → Asked70 d x
 unfolding questions
 asked-70 d x =
     record {
       order = refl;
-      stands = ap (λ ls. ask 70 (places ls)) (keep-both (λ l. reserved l.chars) (λ l. any (in_pair l.chars) editions) (λ l. reserved-pair l.chars) (labels_in x));
+      stands = ap (λ ls. ask 70 (places ls)) (filter_agree (λ l. reserved l.chars) (λ l. any (in_pair l.chars) editions) (λ l. reserved-pair l.chars) (labels_in x));
     }
 
 passed : (qs rs : List Question) → first_no qs ≡ yes → first_no (qs ++ rs) ≡ first_no rs

@@ -4,7 +4,6 @@ pub use Rattle.language.specs.Below.ListLaws
 pub use Rattle.language.specs.Below.Lists
 pub use Rattle.language.specs.Below.ListsTableLaws
 pub use Rattle.language.specs.Below.Quoted
-pub use Rattle.language.specs.Instructions
 pub use Rattle.language.specs.Letters
 pub use Rattle.language.specs.Limits
 pub use Rattle.language.specs.Program

@@ -5,8 +5,3 @@
 pub mod from_characters {
     pub use language::from_characters::{is_capital, is_digit, is_known};
 }
-
-// Of `language`, passed on to the crates above.
-pub mod from_language {
-    pub use language::Machine;
-}

@@ -2,7 +2,7 @@
 use Rattle.std.specs.List.{position_or_len}
 use Rattle.std.specs.Prelude.{◌≡◌, refl, Bool, true, false, not, cond, Option, Some, None, List, [], ◌∷◌, ℕ, suc, ◌+◌, ◌-◌, ◌≤◌, ◌<◌, eqb, length, drop, take, nat_lt, position}
 use Rattle.std.proofs.Common.{ap, sym, ◌∙◌, arith, ltb-true, ltb-false, length-drop}
-use Rattle.std.proofs.Math.Seq.{take_all}
+use Rattle.std.proofs.lemmas.List.{take_rest}
 use Rattle.text_lines.specs.Lines.{line_length, LineEnd}
 
 abbrev is_new : ℕ → Bool
@@ -48,11 +48,8 @@ untold s r e f = go (nat_lt (position_or_len is_new s) (length s)) refl (sym e �
 
 -- the part that the code lends is all from `at` on
 module _ (s : List ℕ) (at : ℕ) (h : at < length s) (r : Option ℕ) (e : r ≡ position is_new (take (length s - at) (drop at s))) where
-  lent_is : take (length s - at) (drop at s) ≡ drop at s
-  lent_is = take_all (length s - at) (drop at s) (omega (arith, length-drop at s))
-
   behind : r ≡ position is_new (drop at s)
-  behind = e ∙ ap (position is_new) lent_is
+  behind = e ∙ ap (position is_new) (take_rest s at)
 
   pub end_behind : (k : ℕ) → r ≡ Some k → LineEnd s at (at + k + 1)
   end_behind k f =

@@ -17,8 +17,5 @@ pub fn line_end(text: &[u8], at: usize) -> usize
     requires { at < length text.now }
     ensures { LineEnd text.now at result }
 {
-    match new_line(&text[at..]) {
-        Some(k) => at + k + 1,
-        None => text.len(),
-    }
+    new_line(&text[at..]).map_or(text.len(), |k| at + k + 1)
 }
