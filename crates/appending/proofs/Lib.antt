@@ -1,2 +1,1 @@
-mod Putting
 pub mod Below

@@ -3,7 +3,7 @@ use mathlib.Core.Path.{◌≡◌, refl, sym, ap, ◌∙◌, subst}
 use mathlib.Core.Bool.{Bool, true, false, not}
 use Prim.Native.Nat.{ℕ}
 use lib.Dec.{eqb, T}
-use borrow.Author.Tests.{eqb-true, eq-eqb}
+use borrow.Author.Tests.{eqb-true, eq-eqb, not-false}
 use denote.Enum.Bare.{sameb}
 use Rattle.components.specs.contracts.Kind.{the_type}
 use Rattle.components.specs.declared.Kind.{Kind}
@@ -27,8 +27,4 @@ module _ (j k : Kind) {n : ℕ} {told : Bool} (e : kind_number j ≡ n) (q : tol
   other_kind t h = subst T (sym t ∙ q ∙ ap not (kinds_same j k ∙ eq-eqb (kind_number j) (kind_number k) (e ∙ h))) tt
 
   pub right_kind : told ≡ false → n ≡ kind_number k
-  right_kind t = sym e ∙ eqb-true (kind_number j) (kind_number k) (sym (kinds_same j k) ∙ go (sameb the_type j k) (sym q ∙ t))
-    where
-      go : (b : Bool) → not b ≡ false → b ≡ true
-      go true h = refl
-      go false h = absurd (subst T h tt)
+  right_kind t = sym e ∙ eqb-true (kind_number j) (kind_number k) (sym (kinds_same j k) ∙ not-false (sameb the_type j k) (sym q ∙ t))

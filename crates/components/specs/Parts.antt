@@ -1,13 +1,14 @@
 -- What the readers and makers of components ask and tell.
 use Rattle.std.specs.Prelude.{◌≡◌, cond, List, [], ◌∷◌, ◌++◌, map, ℕ, ◌+◌, ◌≤◌, eqb, length, Option, Some, None}
 use Rattle.std.specs.Borrow.{Bor}
-use Rattle.cells.specs.Cells.{pasted}
+use Rattle.cells.specs.Cells.{pasted, Number as Numbered}
 use Rattle.cells.specs.Below.Limits as limit
 use Rattle.cells.specs.Below.LanguageValues.{Component, chars, kind}
 use Rattle.cells.specs.Below.LayoutBounds.{EncodedOne, WholeComponents}
 use Rattle.cells.specs.Below.LayoutCells.{cell}
 use Rattle.cells.specs.Below.Components.{component_size, component_in, components_in}
 use Rattle.cells.specs.Below.Lists.{joined}
+use Rattle.components.specs.declared.Amount.{Amount}
 use Rattle.components.specs.declared.Kind.{Kind}
 use Rattle.components.specs.declared.Kind.TheVariants.{Word, Number, Address}
 
@@ -50,6 +51,12 @@ pub record LeadingKind (k : ℕ) (l : List ℕ) : Type 0 where
 pub record LentChars (x : Component) (r : List ℕ) : Type 0 where
   pub is : r ≡ chars x
   pub most : length r ≤ limit.word
+
+-- a is how much the first component of l is
+pub record AmountOfFirst (l : List ℕ) (a : Amount) : Type 0 where
+  pub parts_are : a.parts ≡ 1
+  pub bytes_are : Numbered (first_size l) 257 a.bytes
+  pub chars_are : a.chars ≡ length (chars (component_in l))
 
 -- among `long` cells there is room from index at on for a word of n characters
 pub record WordRoom (long at n : ℕ) : Type 0 where

@@ -7,9 +7,10 @@ ghost use Rattle.cells.specs.Below.LanguageValues.Component.{word, number, addre
 ghost use Rattle.cells.specs.Below.MachineArguments.{char};
 ghost use Rattle.cells.specs.Below.LayoutBounds.{WholeComponents};
 ghost use Rattle.cells.specs.Below.LayoutCells.{three, code, uncode};
+ghost use Rattle.cells.specs.Below.Limits as limit;
 ghost use Rattle.cells.specs.Below.Components.{component_bytes, components_bytes, component_size, component_in, components_in};
 ghost use Rattle.cells.specs.Cells.{pasted, Number, Writable};
-ghost use Rattle.components.specs.Parts.{first_size, kind_number, spelled, SplitFirst, Leading, LeadingKind, LentChars, WordRoom, CopyRoom, JoinRoom, Written};
+ghost use Rattle.components.specs.Parts.{first_size, kind_number, spelled, SplitFirst, Leading, LeadingKind, LentChars, AmountOfFirst, WordRoom, CopyRoom, JoinRoom, Written};
 
 use cells::from_language::Machine;
 
@@ -27,6 +28,46 @@ pub struct Amount {
     pub parts: usize,
     pub bytes: usize,
     pub chars: usize,
+}
+
+impl Amount {
+    // Of nothing.
+    pub const NONE: Amount = Amount {
+        parts: 0,
+        bytes: 0,
+        chars: 0,
+    };
+
+    // Of one number or address.
+    pub const SHORT: Amount = Amount {
+        parts: 1,
+        bytes: 5,
+        chars: 0,
+    };
+
+    // Of a word of `n` characters.
+    pub fn word(n: usize) -> Amount
+        requires { n ≤ limit.word }
+        ensures { result ≡ record { parts = 1; bytes = 1 + n; chars = n } }
+    {
+        Amount {
+            parts: 1,
+            bytes: 1 + n,
+            chars: n,
+        }
+    }
+
+    // Of the component in front.
+    pub fn of_first(x: &[u8]) -> Amount
+        requires { Leading x.now }
+        ensures { AmountOfFirst x.now result }
+    {
+        Amount {
+            parts: 1,
+            bytes: first_size(x),
+            chars: chars_of(x).len(),
+        }
+    }
 }
 
 // The code of 0: a number travels as its value with this added, which is the greatest size of one.
@@ -186,9 +227,4 @@ pub fn split(out: &mut [u8], w: &[u8]) -> usize
         out[2 * i + 1] = *c;
     }
     2 * w.len()
-}
-
-// Of `cells`, passed on to the crates above.
-pub mod from_cells {
-    pub use cells::put;
 }

@@ -15,7 +15,6 @@ use state::Working;
 pub fn depth(state: &Working) -> usize
     ensures { Deep state.now result }
 {
-    let _ = &state.nums;
     state.strings.len_of(StatePlaces::STACK_STRING) / 2
 }
 
@@ -24,8 +23,7 @@ pub fn go_on(state: &mut Working)
     requires { suc state.old.next < limit.instructions }
     ensures { HoldsState state.new (going on state.old) }
 {
-    let n = cells::read(&state.nums, StatePlaces::NEXT_SCALAR);
-    cells::write(&mut state.nums, StatePlaces::NEXT_SCALAR, n + 1);
+    state.scalars.next += 1;
 }
 
 // Goes on with instruction `t`.
@@ -33,7 +31,7 @@ pub fn go_to(state: &mut Working, t: usize)
     requires { t < limit.instructions }
     ensures { HoldsState state.new (going (jump t) state.old) }
 {
-    cells::write(&mut state.nums, StatePlaces::NEXT_SCALAR, t);
+    state.scalars.next = t;
 }
 
 // Goes on with instruction `t` and keeps the way back.
@@ -41,10 +39,10 @@ pub fn call_to(state: &mut Working, t: usize)
     requires { Callable state.old t }
     ensures { HoldsState state.new (going (call t) state.old) }
 {
-    let n = cells::read(&state.nums, StatePlaces::NEXT_SCALAR) + 1;
+    let n = state.scalars.next + 1;
     let entry = (n as u16).to_le_bytes();
     state.strings.push_front(StatePlaces::STACK_STRING, &entry);
-    cells::write(&mut state.nums, StatePlaces::NEXT_SCALAR, t);
+    state.scalars.next = t;
 }
 
 // Goes back to where the last call that is kept came from.
@@ -53,7 +51,7 @@ pub fn go_back(state: &mut Working)
     ensures { HoldsState state.new (going back state.old) }
 {
     let e = state.strings.part_of(StatePlaces::STACK_STRING, 0, 2);
-    let t = usize::from(u16::from_le_bytes([e[0], e[1]]));
+    let t = cells::two_at(e, 0);
     state.strings.drop_front(StatePlaces::STACK_STRING, 2);
-    cells::write(&mut state.nums, StatePlaces::NEXT_SCALAR, t);
+    state.scalars.next = t;
 }

@@ -28,7 +28,7 @@ use Rattle.layout.specs.Places.{before_string, after_string}
 use Rattle.state.specs.Working.{Lies, on_store, nth, filing}
 use Rattle.state.proofs.Sequences.{total-ones, rest-bytes, bytes-within}
 use Rattle.state.proofs.Freed.{removed-total, held-records-off, recorded-records-off, held-records-on, recorded-records-on}
-use Rattle.state.proofs.Standing.{number_is, numbers-long, string-is}
+use Rattle.state.proofs.Standing.{number_is, string-is}
 use Rattle.filing.specs.Files.{RecordsLent, FirstRecords, RecordsDroppable}
 use Rattle.filing.proofs.Replaced.{holds-file}
 
@@ -76,7 +76,6 @@ module _ {t : List (List ℕ)} {n : List ℕ} {s : State} (h : Lies t n s) {i k 
   records-lowerable =
       let s = s.store in
       record {
-        long = numbers-long h;
         components =
             omega (arith, number_is h 5, held-file s i (λ x. 1), removed-total (λ r. total (λ x. 1) r.parts) old k, pre.first.parts_is);
         characters =

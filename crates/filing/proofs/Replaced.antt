@@ -17,7 +17,7 @@ use Rattle.state.specs.Blocks.{totalled}
 use Rattle.layout.specs.Places.{before_string, after_string}
 use Rattle.state.specs.Working.{Lies, on_store, nth, part_total, char_total}
 use Rattle.state.proofs.Fineness.{fine-files}
-use Rattle.state.proofs.Scalars.{scalars-files}
+use Rattle.state.proofs.Totals.{scalars-files}
 use Rattle.state.proofs.Sequences.{total-ones, each_set}
 use Rattle.state.proofs.Strings.{strings-file}
 

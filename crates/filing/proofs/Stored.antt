@@ -139,10 +139,6 @@ module _ {t : List (List ℕ)} {n : List ℕ} {s : State} (h : Lies t n s) {i : 
       }
 
   module _ {n₁ : List ℕ} (q : n₁ ≡ totalled (get_or n layout.components_scalar 0 + c) (get_or n layout.characters_scalar 0 + d) n) where
-    pub scalars-there : length n₁ ≡ 8
-    unfolding totalled
-    scalars-there = rw (q, h.numbers) refl
-
     pub records-room : get_or n₁ layout.records_scalar 0 + k ≤ limit.records
     unfolding totalled
     records-room = rw (q, h.numbers) pre.records_room

@@ -20,7 +20,7 @@ use Rattle.layout.specs.Places.{before_string, after_string}
 use Rattle.state.specs.Working.{Lies, on_store}
 use Rattle.state.proofs.Sequences.{total-exchanged, each-exchanged}
 use Rattle.state.proofs.Fineness.{fine-files}
-use Rattle.state.proofs.Scalars.{scalars-files}
+use Rattle.state.proofs.Totals.{scalars-files}
 use Rattle.state.proofs.Strings.{strings-file}
 use Rattle.filing.specs.Files.{files_exchanged}
 use Rattle.filing.proofs.Pointers.{apart}

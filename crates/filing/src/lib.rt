@@ -43,9 +43,8 @@ pub fn drop_records(state: &mut Working, i: usize, records: usize, amount: Amoun
     state
         .strings
         .drop_front(StatePlaces::FIRST_FILE + (2 * i + 1), amount.bytes);
-    state::lower(&mut state.nums, amount);
-    let n = cells::read(&state.nums, StatePlaces::RECORDS_SCALAR);
-    cells::write(&mut state.nums, StatePlaces::RECORDS_SCALAR, n - records);
+    state.scalars.lower(amount);
+    state.scalars.records -= records;
 }
 
 // Moves the pointer of file `i` past the records after it that stand up to a place.
@@ -126,11 +125,9 @@ pub fn write_records(
     ensures { HoldsState state.new (on_store (stored (nth (filing target.reverses) target.j) (bodies target.reverses new.now)) state.old) }
 {
     insert(&mut state.strings, target, new);
-    state::raise(&mut state.nums, amount);
-    let n = cells::read(&state.nums, StatePlaces::RECORDS_SCALAR);
-    let last = cells::read(&state.nums, StatePlaces::LAST_SCALAR);
-    cells::write(&mut state.nums, StatePlaces::RECORDS_SCALAR, n + records);
-    cells::write(&mut state.nums, StatePlaces::LAST_SCALAR, last + records);
+    state.scalars.raise(amount);
+    state.scalars.records += records;
+    state.scalars.last += records;
 }
 
 // Exchanges the files `i` and `j`.

@@ -13,11 +13,12 @@ use Rattle.std.specs.Option.{IfSome}
 use Rattle.std.specs.Prelude.{Option, Some, None, cond, not, position, unwrap_or, is_some}
 use Rattle.std.proofs.lemmas.List.Quantifiers.{position-Some}
 use Rattle.std.specs.List.{position_or_len}
+use Rattle.std.proofs.lemmas.List.{get_or-map}
 use Rattle.acceptance.proofs.StatementLaws.{same_bytes-sym}
 use Rattle.language.specs.Limits as limit
 use Rattle.language.specs.Program.{Label, Program, no_label}
 use Rattle.language.specs.Values.{same_number}
-use Rattle.layout.proofs.CellLaws.{each_in, uncode-code, length-fours, take-unfours, block_at, first_cell, padded-at, get_d-map-at}
+use Rattle.layout.proofs.CellLaws.{each_in, uncode-code, length-fours, take-unfours, block_at, first_cell, padded-at}
 use Rattle.layout.specs.Cells.{cell, fours, code, uncode}
 use Rattle.layout.specs.Table.{label_cells, text_cells, counts, chars_in, text_in, label_in}
 use Rattle.layout.specs.Places as layout
@@ -73,7 +74,7 @@ module _ (c : List ℕ) (p : Program) (h : HoldsProgram c p) where
   number_read k b =
       let e = numbers-at (counts p) (code_part p) (labels_part p) (texts_part p) (switches_part p) (entries_part p) (numbers_part p) (sizes p h.tabular) in
       ap (λ (y : List ℕ). cell y (layout.first_number + k)) held
-      ∙ padded-at (parts p) (map code p.numbers) (replicate 1752 0) layout.first_number 128 e k (rw length-map b) ∙ get_d-map-at code p.numbers k (pos 0) 0 b
+      ∙ padded-at (parts p) (map code p.numbers) (replicate 1752 0) layout.first_number 128 e k (rw length-map b) ∙ get_or-map code p.numbers k (pos 0) 0 b
 
 -- ---- numbers by their codes
 

@@ -6,6 +6,7 @@ use Prim.Native.Nat.{ℕ, ◌+◌, ◌-◌, ◌*◌, ◌≤◌, ◌<◌}
 use native.Mathlib.Omega.{arith}
 use lib.ListN.{length, take, drop, get_or, set, length-append, length-take, length-drop, length-set}
 use lib.Seq.{get_or-set_same, get_or-set_other}
+use Rattle.std.proofs.lemmas.Bool.{cases_order}
 use Rattle.cells.specs.Cells.{pasted}
 use Rattle.cells.proofs.Laws.{length-pasted}
 use Rattle.cells.proofs.Below.LayoutCellLaws.{length-tab, get_d-tab, tab-ext}
@@ -14,7 +15,7 @@ use Rattle.cells.specs.Below.LayoutPlaces as layout
 use Rattle.gaps.specs.Pool.{lo, hi, str, abs, string, Ordered, Fine, Holds}
 use Rattle.gaps.specs.Gaps.{GapStart, GapEnd, Gap, pushed_front, pushed_back, Made}
 use Rattle.gaps.proofs.Index.{used-set}
-use Rattle.gaps.proofs.Parts.{same_or, part-before, part_behind, part-front, part-back}
+use Rattle.gaps.proofs.Parts.{part-before, part_behind, part-front, part-back}
 
 -- the strings
 
@@ -86,7 +87,7 @@ changed p e {p'} {e'} i v z o b u h k =
     (λ j c. ⊎_elim
     (λ (q : j ≡ i). rw q (h ∙ sym (get_or-set_same (abs p e) i v [] b')))
     (λ w. let n : (j ≡ i → ⊥) = λ q. ⊎_elim (λ k. omega arith) (λ k. omega arith) w in k j c n ∙ sym (string-is p e j c) ∙ sym (get_or-set_other (abs p e) i j v [] n))
-    (same_or j i))
+    (cases_order j i))
 
 -- one cell is set
 
@@ -101,19 +102,19 @@ ordered-set {e} c v f b m below above =
           (λ (q : j ≡ c). ⊎_elim
           (λ (r : k ≡ c). rw (q, r) (omega arith))
           (λ w. ⊎_elim (λ (x : k < c). absurd (no-order j k c h q x)) (λ (x : c < k). rw (q, same, more k x) (above k x u)) w)
-          (same_or k c))
+          (cases_order k c))
           (λ w. ⊎_elim
           (λ (x : j < c). ⊎_elim
           (λ (r : k ≡ c). rw (r, same, less j x) (below j x))
           (λ z. ⊎_elim (λ (y : k < c). rw (less j x, less k y) (f.order j k h u)) (λ (y : c < k). rw (less j x, more k y) (f.order j k h u)) z)
-          (same_or k c))
+          (cases_order k c))
           (λ (x : c < j). let y : c < k = omega arith in rw (more j x, more k y) (f.order j k h u))
           w)
-          (same_or j c);
+          (cases_order j c);
       last = λ k u. ⊎_elim
           (λ (q : k ≡ c). rw (q, same) m)
           (λ w. ⊎_elim (λ (x : k < c). rw (less k x) (f.last k u)) (λ (x : c < k). rw (more k x) (f.last k u)) w)
-          (same_or k c);
+          (cases_order k c);
     }
   where
     no-order : (j k c : ℕ) → j ≤ k → j ≡ c → k < c → ⊥
@@ -157,7 +158,7 @@ module _ {p e : List ℕ} {i : ℕ} (f : Fine p e) (b : i < layout.strings_count
 
   -- string j lies on one side of string i
   side : (j : ℕ) → j < layout.strings_count → (j ≡ i → ⊥) → (j < i) ⊎ (i < j)
-  side j c n = ⊎_elim (λ q. absurd (n q)) (λ w. w) (same_or j i)
+  side j c n = ⊎_elim (λ q. absurd (n q)) (λ w. w) (cases_order j i)
 
   pub front-pushed : (s : List ℕ) → Gap e i (length s) → used (abs p e) + length s ≤ 32768 → Holds (pasted p (lo e i - length s) s) (set e (2 * i) (lo e i - length s)) (pushed_front i s (abs p e))
   unfolding pushed_front

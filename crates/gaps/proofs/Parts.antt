@@ -1,22 +1,13 @@
 -- A part of a list after a paste: before it, behind it, the paste itself, and with the paste at either end.
 use mathlib.Core.Path.{◌≡◌, sym, ap, ◌∙◌}
 use mathlib.Core.List.{List, [], ◌∷◌, ◌++◌, append_assoc}
-use mathlib.Core.Logic.{◌⊎◌, inl, inr, ⊎_elim}
-use Prim.Native.Nat.{ℕ, zero, suc, ◌+◌, ◌-◌, ◌≤◌, ◌<◌}
+use Prim.Native.Nat.{ℕ, zero, suc, ◌+◌, ◌-◌, ◌≤◌}
 use native.Mathlib.Nat.{sub-zero, zero-sub, suc-sub-suc}
 use native.Mathlib.Omega.{arith}
 use lib.ListN.{length, take, drop, length-append, length-take, length-drop, take-append-drop}
 use lib.Seq.{drop_at, drop-drop, take-append-le, drop-append-le, take-append-add, take_all, length-take-le, take-append_seam, take-nil}
 use Rattle.cells.specs.Cells.{pasted}
 use Rattle.cells.proofs.Laws.{drop_past}
-
-pub below_or : (j i : ℕ) → (j < i) ⊎ (i ≤ j)
-below_or j zero = inr (omega arith)
-below_or zero (suc i) = inl (omega arith)
-below_or (suc j) (suc i) = ⊎_elim (λ h. inl (omega arith)) (λ h. inr (omega arith)) (below_or j i)
-
-pub same_or : (j i : ℕ) → (j ≡ i) ⊎ ((j < i) ⊎ (i < j))
-same_or j i = ⊎_elim (λ h. inr (inl h)) (λ h. ⊎_elim (λ k. inr (inr k)) (λ k. inl (omega arith)) (below_or i j)) (below_or j i)
 
 pub drop-take : (n m : ℕ) (l : List ℕ) → drop n (take m l) ≡ take (m - n) (drop n l)
 drop-take zero m l = rw sub-zero

@@ -6,6 +6,7 @@ use Prim.Native.Nat.{ℕ, ◌+◌, ◌-◌, ◌*◌, ◌≤◌, ◌<◌}
 use native.Mathlib.Omega.{arith}
 use lib.ListN.{length, get_or, set, length-set}
 use lib.Seq.{get_or-set_same, get_or-set_other}
+use Rattle.std.proofs.lemmas.Bool.{cases_lt, cases_order}
 use Rattle.cells.specs.Cells.{pasted}
 use Rattle.cells.proofs.Laws.{length-pasted}
 use Rattle.cells.specs.Below.Strings.{used}
@@ -13,7 +14,7 @@ use Rattle.cells.specs.Below.LayoutPlaces as layout
 use Rattle.gaps.specs.Pool.{lo, hi, str, abs, string, offset, Ordered, Fine, Holds}
 use Rattle.gaps.specs.Gaps.{LaidOne, Carriable, Carried, Extra, Settleable, Settled, Spreadable, Made}
 use Rattle.gaps.proofs.Index.{offset-zero, offset-next, offset-within, offset-all}
-use Rattle.gaps.proofs.Parts.{below_or, same_or, part-before, part-pasted}
+use Rattle.gaps.proofs.Parts.{part-before, part-pasted}
 use Rattle.gaps.proofs.Laws.{length-abs, string-is, string-part, hold, spanned, length-str, shaped, str-pasted}
 
 -- two cells are set
@@ -39,7 +40,7 @@ both e j x y b =
     }
 
 which : (k j : ℕ) → k < 2 * (j + 1) → (k < 2 * j) ⊎ ((k ≡ 2 * j) ⊎ (k ≡ 2 * j + 1))
-which k j h = ⊎_elim (λ x. inr (inl x)) (λ w. ⊎_elim (λ x. inl x) (λ x. inr (inr (omega arith))) w) (same_or k (2 * j))
+which k j h = ⊎_elim (λ x. inr (inl x)) (λ w. ⊎_elim (λ x. inl x) (λ x. inr (inr (omega arith))) w) (cases_order k (2 * j))
 
 -- the first j strings of s are laid out, up to `at`
 pub record Laid (p e : List ℕ) (j at : ℕ) (s : List (List ℕ)) : Type 0 where
@@ -71,7 +72,7 @@ module _ {p e p' e' b : List ℕ} {j at to : ℕ} {s : List (List ℕ)} (l : Lai
       (λ (u : y ≡ 2 * j). ⊎_elim
       (λ (v : x < 2 * j). rw (u, pair.below x v, pair.low) (omega (arith, l.last x v)))
       (λ (v : 2 * j ≤ x). let q : x ≡ 2 * j = omega arith in rw (q, u) (omega arith))
-      (below_or x (2 * j)))
+      (cases_lt x (2 * j)))
       (λ (u : y ≡ 2 * j + 1). ⊎_elim
       (λ (v : x < 2 * j). rw (u, pair.below x v, pair.high) (omega (arith, l.last x v)))
       (λ (z : (x ≡ 2 * j) ⊎ (x ≡ 2 * j + 1)). ⊎_elim
@@ -107,7 +108,7 @@ module _ {p e p' e' b : List ℕ} {j at to : ℕ} {s : List (List ℕ)} (l : Lai
     cells = pair.long ∙ l.cells;
     order = laid-order;
     last = laid-last;
-    is = λ k h. ⊎_elim (λ (u : k < j). old-string k u ∙ l.is k u) (λ (u : j ≤ k). let q : k ≡ j = omega arith in rw q (new-string ∙ is)) (below_or k j);
+    is = λ k h. ⊎_elim (λ (u : k < j). old-string k u ∙ l.is k u) (λ (u : j ≤ k). let q : k ≡ j = omega arith in rw q (new-string ∙ is)) (cases_lt k j);
   }
 
   -- what is laid later, and what was laid before, is as it was
@@ -178,7 +179,7 @@ module _ {p e₀ q₀ e q : List ℕ} {i n at j sc r : ℕ} (pre : Spreadable p 
   to-most = ⊎_elim
       (λ (x : j ≡ i). omega (arith, added.most, m.less (omega arith)))
       (λ w. let z : r ≡ 0 = added.else (λ x. ⊎_elim (λ y. omega arith) (λ y. omega arith) w) in omega (arith, m.most))
-      (same_or j i)
+      (cases_order j i)
 
   to-less : j + 1 ≤ i → at + r ≤ 320 * j + offset j (abs p e₀)
   to-less x = let z : r ≡ 0 = added.else (λ y. omega arith) in omega (arith, m.less (omega arith))
@@ -223,7 +224,7 @@ module _ {p e₀ q₀ e q : List ℕ} {i n at j sc r : ℕ} (pre : Spreadable p 
             let w : r ≡ n = added.here (omega arith) in
             let c : lo e' i ≡ at + 320 + r = rw u (laid-low m.laid h le in-q str-is o.laid) in
             record { first = rw c (omega arith); all = λ k z. rw (c, laid-before m.laid h le in-q str-is o.laid k (omega arith)) (omega (arith, m.laid.last k (omega arith))) })
-            (below_or i j);
+            (cases_lt i j);
       }
 
 -- its end: what was laid can be copied back, and was
@@ -269,7 +270,7 @@ module _ {p e₀ q₀ e q : List ℕ} {i n at j sc : ℕ} (pre : Spreadable p e�
           after = record { all = λ k y z. absurd (none k y z x); most = omega arith };
           room = omega (arith, m.less (omega (arith, m.upto)), at_end, all_start, pre.total);
         })
-        (below_or i layout.strings_count);
+        (cases_lt i layout.strings_count);
   }
     where
       none : (k : ℕ) → 2 * i ≤ k → k < layout.ends_count → layout.strings_count ≤ i → ⊥
@@ -290,7 +291,7 @@ settled-more {p = p} {e} {q} {j = j} pre m h o =
       is = λ k x. ⊎_elim
           (λ (u : k < j). rw o (str-pasted p e (lo e j) b k (spanned pre.ordered (omega arith)).ordered in_p (inl (before k u))) ∙ m.is k u)
           (λ (u : j ≤ k). let r : k ≡ j = omega arith in rw (r, o) (part-pasted p (lo e j) b (hi e j) long in_p))
-          (below_or k j);
+          (cases_lt k j);
     }
 
 -- the loop that counts them

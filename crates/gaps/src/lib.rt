@@ -159,13 +159,3 @@ pub fn make_room(pool: &mut [u8], ends: &mut [u32], scratch: &mut [u8], i: usize
 pub mod from_cells {
     pub use cells::{put, read, write};
 }
-
-// Of `language`, passed on to the crates above.
-pub mod from_language {
-    pub use cells::from_language::Machine;
-}
-
-// Of `layout`, passed on to the crates above.
-pub mod from_layout {
-    pub use cells::from_layout::StatePlaces;
-}

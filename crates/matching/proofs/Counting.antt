@@ -10,7 +10,7 @@ use lib.ListN.{length, take, drop, length-append}
 use Rattle.std.specs.List.{position_or_len}
 use Rattle.std.specs.Option.{is_some}
 use Rattle.std.specs.Prelude.{Option, Some, None, position, unwrap_or}
-use Rattle.lists.specs.SearchLaws.{ahead-is, position_or_length}
+use Rattle.lists.specs.SearchLaws.{ahead-is, position_or_length, any-ahead}
 use borrow.Author.Tests.{le-leb, leb-true, leb-false}
 use Rattle.components.specs.Parts.{Front}
 use Rattle.components.proofs.Walks.{none_left, front_one, chars-there, word_there, bytes_there, cells-long, front_some}
@@ -27,7 +27,7 @@ use Rattle.matching.specs.Tests.{until, reached_by, stops_before, ends, walked, 
 use Rattle.matching.specs.declared.Taken.{Taken}
 use Rattle.matching.specs.declared.Test.{Test}
 use Rattle.matching.specs.declared.Test.TheVariants.{All, Count, Class, Among}
-use Rattle.matching.proofs.Loops.{any-ahead, all_append, split}
+use Rattle.matching.proofs.Loops.{all_append, split}
 
 module _ {X : Type 0} where
   walked_all : (k : ℕ) (xs : List X) → walked everything k xs ≡ (k + length xs, true)

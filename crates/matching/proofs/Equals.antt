@@ -4,6 +4,7 @@ use mathlib.Core.Bool.{Bool, true, false}
 use mathlib.Core.List.{List}
 use Prim.Native.Nat.{ℕ}
 use lib.Dec.{T}
+use lib.Ieee.Bits.{is_true}
 use Rattle.components.specs.Parts.{Front}
 use Rattle.components.proofs.Walks.{front_one}
 use Rattle.components.specs.Below.LanguageValues.{Component, same}
@@ -12,12 +13,8 @@ use Rattle.components.specs.Below.Components.{component_bytes, component_in, com
 use Rattle.characters.specs.Below.Lists.{any}
 use Rattle.components.proofs.Below.ValueLaws.{same-eq, same_refl}
 
-truth : (b : Bool) → T b → b ≡ true
-truth true t = refl
-truth false t = absurd t
-
 same_self : (x : Component) → same x x ≡ true
-same_self x = truth (same x x) (same_refl x)
+same_self x = is_true (same x x) (same_refl x)
 
 same_not : (x y : Component) → (x ≡ y → ⊥) → same x y ≡ false
 same_not x y n = go (same x y) refl

@@ -1,30 +1,15 @@
--- Lists walked through: whether one has a test, all of one element more, and the list split at an element.
-use mathlib.Core.Path.{◌≡◌, refl, sym, ap, ◌∙◌}
-use mathlib.Core.Bool.{Bool, true, false, ◌&&◌, ◌||◌}
+-- Lists walked through: all of one element more, and the list split at an element.
+use mathlib.Core.Path.{◌≡◌, refl, ap}
+use mathlib.Core.Bool.{Bool, true, false, ◌&&◌, and-true}
 use mathlib.Core.List.{List, [], ◌∷◌, ◌++◌}
 use Prim.Native.Nat.{ℕ, zero, suc, ◌≤◌}
 use native.Mathlib.Omega.{arith}
-use lib.Dec.{ltb, leb-suc-suc}
 use lib.ListN.{length, take, drop}
-use borrow.Author.Tests.{lt-ltb}
-use Rattle.characters.specs.Below.Lists.{all, any, ahead}
+use Rattle.characters.specs.Below.Lists.{all}
 
 module _ {X : Type 0} (p : X → Bool) where
-  -- one has p where the count stops before the end
-  pub any-ahead : (xs : List X) → any p xs ≡ ltb (ahead p xs) (length xs)
-  any-ahead [] = refl
-  any-ahead (x ∷ xs) = go (p x) (any-ahead xs)
-    where
-      go : (b : Bool) → any p xs ≡ ltb (ahead p xs) (length xs) → (b || any p xs) ≡ ltb (elim b [ true ↦ 0 | false ↦ suc (ahead p xs) ]) (suc (length xs))
-      go true h = sym (lt-ltb 0 (suc (length xs)) (omega arith))
-      go false h = h ∙ sym (leb-suc-suc (suc (ahead p xs)) (length xs))
-
   pub all_append : (xs : List X) (x : X) → all p (xs ++ (x ∷ [])) ≡ all p xs && p x
-  all_append [] x = go (p x)
-    where
-      go : (b : Bool) → (b && true) ≡ b
-      go true = refl
-      go false = refl
+  all_append [] x = and-true (p x)
   all_append (y ∷ xs) x = go (p y) (all_append xs x)
     where
       go : (b : Bool) → all p (xs ++ (x ∷ [])) ≡ (all p xs && p x) → (b && all p (xs ++ (x ∷ []))) ≡ ((b && all p xs) && p x)

@@ -1,11 +1,12 @@
 -- Tests of characters: of a word that they are compared with, only the first character counts, and no other component is met.
 use mathlib.Core.Path.{◌≡◌, refl, sym, ap, fun_ext}
-use mathlib.Core.Bool.{Bool, true, false, ◌&&◌, ◌||◌}
-use mathlib.Core.List.{List, [], ◌∷◌, ◌++◌, map}
+use mathlib.Core.Bool.{Bool, true, false, ◌&&◌, ◌||◌, and-true}
+use mathlib.Core.List.{List, [], ◌∷◌, map}
 use Prim.Native.Nat.{ℕ, ◌≤◌}
 use native.Mathlib.Omega.{arith}
 use lib.Dec.{eqb}
 use lib.ListN.{length, take, length-append, length-take}
+use Rattle.std.proofs.lemmas.List.Folds.{list_any-append}
 use Rattle.components.specs.Below.Letters.{Letter, Reading}
 use Rattle.components.specs.Below.Letters.Reading.{one, any_of}
 use Rattle.components.specs.Below.Program.Arg.{letter, class, text}
@@ -15,10 +16,6 @@ use Rattle.components.specs.Below.Table.{class_by}
 use Rattle.characters.specs.Below.Lists.{any, among}
 use Rattle.components.specs.Below.MachineArguments.{char, side, Until, up_to, by_reading, cut, on_chars}
 use Rattle.matching.specs.Tests.{in_class, first_chars}
-
-and-true : (b : Bool) → (b && true) ≡ b
-and-true true = refl
-and-true false = refl
 
 -- a character and what is left of a component
 same-cut : (b : ℕ) (x : Component) → same (char b) (cut x) ≡ among b (take 1 (chars x))
@@ -31,18 +28,10 @@ same-cut b (word (y ∷ w)) = go (eqb b y)
 same-cut b (Component.number z) = refl
 same-cut b (address n) = refl
 
-any_append : (p : ℕ → Bool) (v w : List ℕ) → any p (v ++ w) ≡ any p v || any p w
-any_append p [] w = refl
-any_append p (x ∷ v) w = go (p x) (any_append p v w)
-  where
-    go : (t : Bool) → any p (v ++ w) ≡ (any p v || any p w) → (t || any p (v ++ w)) ≡ ((t || any p v) || any p w)
-    go true h = refl
-    go false h = h
-
 -- so the characters to compare with can be prepared
 pub first_met : (b : ℕ) (xs : List Component) → any (same (char b)) (map cut xs) ≡ among b (first_chars xs)
 first_met b [] = refl
-first_met b (x ∷ xs) = rw (same-cut b x, first_met b xs) (sym (any_append (eqb b) (take 1 (chars x)) (first_chars xs)))
+first_met b (x ∷ xs) = rw (same-cut b x, first_met b xs) (sym (list_any-append (eqb b) (take 1 (chars x)) (first_chars xs)))
 
 pub class-met : (mask b : ℕ) → of_class (class_by [] mask) (char b) ≡ in_class mask b
 class-met mask b = and-true (in_class mask b)

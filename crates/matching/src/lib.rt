@@ -207,13 +207,3 @@ pub fn count_chars(s: &[u8], test: Test) -> CharsTaken
         Test::Among(given) => taken_to(place_of(s, given), n),
     }
 }
-
-// Of `cells`, passed on to the crates above.
-pub mod from_cells {
-    pub use components::from_cells::put;
-}
-
-// Of `components`, passed on to the crates above.
-pub mod from_components {
-    pub use components::{Amount, Kind, kind_of, number_of, put_word, size_by};
-}

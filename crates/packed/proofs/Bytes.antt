@@ -1,18 +1,19 @@
 -- Characters four to a cell: a cell and four bytes compared, a word compared cell by cell, and a word copied cell by cell.
 use mathlib.Core.Path.{◌≡◌, refl, sym, ap, ap₂, ◌∙◌}
-use mathlib.Core.Bool.{Bool, true, false, ◌&&◌}
+use mathlib.Core.Bool.{Bool, true, false, ◌&&◌, and-false}
 use mathlib.Core.List.{List, [], ◌∷◌, ◌++◌, append_assoc}
 use Prim.Native.Nat.{ℕ, zero, suc, ◌+◌, ◌-◌, ◌*◌, ◌/◌, ◌%◌, ◌≤◌, ◌<◌, min}
 use native.Mathlib.Nat.{add-mul-mod_self_left, mod-eq_of_lt, sub-zero}
 use native.Mathlib.Numerals.{add-one}
-use native.Mathlib.Decide.{ℕ_discrete, dec_le}
+use native.Mathlib.Decide.{ℕ_discrete}
 use native.Mathlib.Omega.{arith}
 use lib.Dec.{eqb}
-use lib.ListN.{length, get_or, take, drop, drop_of_length-le, length-take, length-drop}
+use lib.ListN.{length, get_or, take, drop, length-take, length-drop}
 use lib.Seq.{take_all, take_at, take-add, drop_at, drop-nil, drop-drop, drop-cons, take-append-le, length-take-le}
 use borrow.Author.Tests.{eq-eqb, ne_eqb}
 use Rattle.std.specs.Int.{w32, to_le_bytes}
 use lib.Pointwise.{pointwise}
+use Rattle.std.proofs.lemmas.List.{drop_all, take_min}
 use Rattle.cells.specs.Cells.{pasted}
 use Rattle.cells.specs.Below.Lists.{bytes_equal}
 use Rattle.cells.specs.Below.ListLaws.{other_length}
@@ -39,10 +40,6 @@ pair_same b w m n h k = go (ℕ_discrete b w) (ℕ_discrete m n)
     go (yes e) (yes f) = rw (eq-eqb b w e, eq-eqb m n f) (eq-eqb (b + 256 * m) (w + 256 * n) (omega arith))
     go (yes e) (no f) = rw (eq-eqb b w e, ne_eqb m n f) (ne_eqb (b + 256 * m) (w + 256 * n) (λ q. f (omega arith)))
     go (no e) d = rw (ne_eqb b w e) (ne_eqb (b + 256 * m) (w + 256 * n) (λ q. e (sym (low b m h) ∙ ap (λ (y : ℕ). y % 256) q ∙ low w n k)))
-
-and-false : (a : Bool) → (a && false) ≡ false
-and-false true = refl
-and-false false = refl
 
 module _ (x v₀ v₁ v₂ v₃ : ℕ) (x_Fits : x < 4294967296) (h₀ : v₀ < 256) (h₁ : v₁ < 256) (h₂ : v₂ < 256) (h₃ : v₃ < 256) where
   abbrev b₀ : ℕ
@@ -76,9 +73,6 @@ next-four w k h =
     let e₃ : k + 2 + 1 ≡ k + 3 = omega arith in
     let e₄ : k + 3 + 1 ≡ k + 4 = omega arith in
     rw (next-byte w k (omega arith), next-byte w (k + 1) (omega arith), e₂, next-byte w (k + 2) (omega arith), e₃, next-byte w (k + 3) (omega arith), e₄)
-
-pub last-bytes : (w : List ℕ) (k : ℕ) → length w ≤ k → drop k w ≡ []
-last-bytes w k h = drop_of_length-le w h
 
 -- ---- a word compared with cells
 
@@ -134,7 +128,7 @@ module _ (l w : List ℕ) (bytes : (j : ℕ) → get_or w j 0 < 256) where
   same-wrong (suc q) h k fits e = same-wrong q (omega arith) (omega arith) fits (same_turn q (omega arith) (omega arith) (fits q (omega arith)) ∙ rw (add-one q, e) (and-false (eqb (get_or l q 0) (four (drop (4 * q) w)))))
 
   pub same_end : (q : ℕ) → 4 * q ≡ length w → left_same l w q ≡ true
-  same_end q e = let z : length w - 4 * q ≡ 0 = omega arith in rw (z, last-bytes w (4 * q) (omega arith))
+  same_end q e = let z : length w - 4 * q ≡ 0 = omega arith in rw (z, drop_all (4 * q) w (omega arith))
 
 -- ---- a word compared with a row of 15 cells, from its end on
 module _ (r : List ℕ) (long : length r ≡ 15) (cells : (j : ℕ) → get_or r j 0 < 4294967296) (w : List ℕ) (bytes : (j : ℕ) → get_or w j 0 < 256) (short : length w ≤ 60) where
@@ -164,13 +158,6 @@ unfolding unfours
 length-unfours [] = refl
 length-unfours (x ∷ l) = omega (arith, length-unfours l)
 
-take_min : (n : ℕ) (l : List ℕ) → take n l ≡ take (min n (length l)) l
-take_min n l = go (dec_le n (length l))
-  where
-    go : Dec (n ≤ length l) → take n l ≡ take (min n (length l)) l
-    go (yes h) = let e : n ≡ min n (length l) = omega arith in ap (λ (k : ℕ). take k l) e
-    go (no h) = take_all n l (omega arith) ∙ sym (take_all (min n (length l)) l (omega arith))
-
 module _ (r : List ℕ) (long : length r ≡ 15) where
   sixty : length (unfours r) ≡ 60
   sixty = length-unfours r ∙ ap (λ (n : ℕ). 4 * n) long
@@ -179,7 +166,7 @@ module _ (r : List ℕ) (long : length r ≡ 15) where
   chars-length n = length-take n (unfours r) ∙ ap (min n) sixty
 
   pub chars-cut : (n : ℕ) → row_chars r n ≡ row_chars r (min n 60)
-  chars-cut n = take_min n (unfours r) ∙ ap (λ (k : ℕ). row_chars r (min n k)) sixty
+  chars-cut n = sym (take_min n (unfours r)) ∙ ap (λ (k : ℕ). row_chars r (min n k)) sixty
 
   pub spells-other : (n m : ℕ) (w : List ℕ) → m ≡ min n 60 → (m ≡ length w → ⊥) → false ≡ bytes_equal (row_chars r n) w
   spells-other n m w e h = sym (other_length (row_chars r n) w (λ z. h (e ∙ sym (chars-length n) ∙ z)))

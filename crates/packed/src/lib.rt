@@ -104,8 +104,3 @@ pub mod from_cells {
 pub mod from_language {
     pub use cells::from_language::Machine;
 }
-
-// Of `layout`, passed on to the crates above.
-pub mod from_layout {
-    pub use cells::from_layout::TablePlaces;
-}

@@ -64,8 +64,8 @@ pub record Unpacking (m p₀ p e : List ℕ) (at from j : ℕ) : Type 0 where
   pub place : at ≡ 320 * j + offset j (strings_in m)
   pub source : from ≡ layout.lengths_bytes + offset j (strings_in m)
 
-pub unpacking-none : (m p e : List ℕ) → length e ≡ layout.ends_count → Unpacking m p p e 0 layout.lengths_bytes 0
-unpacking-none m p e l = record {
+pub unpacking_none : (m p e : List ℕ) → length e ≡ layout.ends_count → Unpacking m p p e 0 layout.lengths_bytes 0
+unpacking_none m p e l = record {
   upto = omega arith;
   long = refl;
   cells = l;
@@ -84,8 +84,8 @@ pub record Turn (m p e : List ℕ) (at from j n : ℕ) : Type 0 where
   pub cells : length e ≡ layout.ends_count
 
 module _ {m p₀ p e : List ℕ} {at from j n b : ℕ} (pre : Unpackable m (length p₀) b) (u : Unpacking m p₀ p e at from j) (h : j < layout.strings_count) (r : Number (two_at (2 * j) m) 65536 n) where
-  pub turn-numbers : Turn m p e at from j n
-  turn-numbers =
+  pub turn_numbers : Turn m p e at from j n
+  turn_numbers =
       let q : n ≡ length (string j (strings_in m)) = r.is ∙ length-read pre.packed j h in
       let w = offset-within (strings_in m) j in
       record {
@@ -97,9 +97,9 @@ module _ {m p₀ p e : List ℕ} {at from j n b : ℕ} (pre : Unpackable m (leng
         cells = u.cells;
       }
 
-  pub unpacking-more : {p' e' : List ℕ} → LaidOne p e j (at + 320) (take ((from + n) - from) (drop from m)) p' e' → length p' ≡ length p → Unpacking m p₀ p' e' (at + 320 + n) (from + n) (j + 1)
-  unpacking-more o l =
-      let t = turn-numbers in
+  pub unpacking_more : {p' e' : List ℕ} → LaidOne p e j (at + 320) (take ((from + n) - from) (drop from m)) p' e' → length p' ≡ length p → Unpacking m p₀ p' e' (at + 320 + n) (from + n) (j + 1)
+  unpacking_more o l =
+      let t = turn_numbers in
       let k : ℕ = (from + n) - from in
       let s : List (List ℕ) = strings_in m in
       let B : List ℕ = take k (drop from m) in

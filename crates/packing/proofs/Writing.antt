@@ -29,13 +29,13 @@ pub record Lengthing (p e d m : List ℕ) (j : ℕ) : Type 0 where
   pub long : length m ≡ length d
   pub is : m ≡ pasted d 0 (lengths (take j (abs p e)))
 
-pub lengthing-none : (p e d : List ℕ) → Lengthing p e d d 0
+pub lengthing_none : (p e d : List ℕ) → Lengthing p e d d 0
 unfolding lengths
-lengthing-none p e d = record { upto = omega arith; long = refl; is = pasted-none d 0 }
+lengthing_none p e d = record { upto = omega arith; long = refl; is = pasted-none d 0 }
 
-pub lengthing-more : {p e d m m' : List ℕ} {j n : ℕ} → Packable p e (length d) → Lengthing p e d m j → j < layout.strings_count → Long p e j n → m' ≡ pasted m (2 * j) (two n) → length m' ≡ length m
+pub lengthing_more : {p e d m m' : List ℕ} {j n : ℕ} → Packable p e (length d) → Lengthing p e d m j → j < layout.strings_count → Long p e j n → m' ≡ pasted m (2 * j) (two n) → length m' ≡ length m
     → Lengthing p e d m' (j + 1)
-lengthing-more {p} {e} {d} {m} {j = j} {n = n} pre u h l q k =
+lengthing_more {p} {e} {d} {m} {j = j} {n = n} pre u h l q k =
     let s : List (List ℕ) = abs p e in
     let b : j < length s = rw (length-abs p e) h in
     let L : List ℕ = lengths (take j s) in
@@ -48,8 +48,8 @@ lengthing-more {p} {e} {d} {m} {j = j} {n = n} pre u h l q k =
       is = q ∙ rw (u.is, at, l.is, next) (pasted-pasted d 0 L (two (length (string j s))) (omega (arith, pre.long)));
     }
 
-pub lengthing-all : {p e d m : List ℕ} {j : ℕ} → Lengthing p e d m j → layout.strings_count ≤ j → m ≡ pasted d 0 (lengths (abs p e))
-lengthing-all {p} {e} {j = j} u h = u.is ∙ rw (take-upto (abs p e) j (length-abs p e) u.upto h)
+pub lengthing_all : {p e d m : List ℕ} {j : ℕ} → Lengthing p e d m j → layout.strings_count ≤ j → m ≡ pasted d 0 (lengths (abs p e))
+lengthing_all {p} {e} {j = j} u h = u.is ∙ rw (take-upto (abs p e) j (length-abs p e) u.upto h)
 
 -- the loop that writes the strings
 pub record Stringing (p e d m : List ℕ) (at j : ℕ) : Type 0 where
@@ -58,21 +58,21 @@ pub record Stringing (p e d m : List ℕ) (at j : ℕ) : Type 0 where
   pub is : m ≡ pasted d layout.lengths_bytes (joined (take j (abs p e)))
   pub place : at ≡ layout.lengths_bytes + offset j (abs p e)
 
-pub stringing-none : (p e d : List ℕ) → Stringing p e d d layout.lengths_bytes 0
-stringing-none p e d = record { upto = omega arith; long = refl; is = pasted-none d layout.lengths_bytes; place = omega (arith, offset-zero (abs p e)) }
+pub stringing_none : (p e d : List ℕ) → Stringing p e d d layout.lengths_bytes 0
+stringing_none p e d = record { upto = omega arith; long = refl; is = pasted-none d layout.lengths_bytes; place = omega (arith, offset-zero (abs p e)) }
 
 -- the next string has its place
-pub string-room : {p e d m r : List ℕ} {at j : ℕ} → Packable p e (length d) → Stringing p e d m at j → Whole p e j r → at + length r ≤ 32966
-string-room {p} {e} {j = j} pre u w = omega (arith, u.place, ap length w.is, offset-within (abs p e) j, pre.fine.fits)
+pub string_room : {p e d m r : List ℕ} {at j : ℕ} → Packable p e (length d) → Stringing p e d m at j → Whole p e j r → at + length r ≤ 32966
+string_room {p} {e} {j = j} pre u w = omega (arith, u.place, ap length w.is, offset-within (abs p e) j, pre.fine.fits)
 
-pub stringing-more : {p e d m m' r : List ℕ} {at j : ℕ} → Packable p e (length d) → Stringing p e d m at j → j < layout.strings_count → Whole p e j r → m' ≡ pasted m at r → length m' ≡ length m
+pub stringing_more : {p e d m m' r : List ℕ} {at j : ℕ} → Packable p e (length d) → Stringing p e d m at j → j < layout.strings_count → Whole p e j r → m' ≡ pasted m at r → length m' ≡ length m
     → Stringing p e d m' (at + length r) (j + 1)
 unfolding offset used
-stringing-more {p} {e} {d} {m} {r = r} {at = at} {j = j} pre u h w q k =
+stringing_more {p} {e} {d} {m} {r = r} {at = at} {j = j} pre u h w q k =
     let s : List (List ℕ) = abs p e in
     let b : j < length s = rw (length-abs p e) h in
     let next : joined (take (j + 1) s) ≡ joined (take j s) ++ r = rw (add-one, w.is) (strings-next s j b) in
-    let room : at + length r ≤ 32966 = string-room pre u w in
+    let room : at + length r ≤ 32966 = string_room pre u w in
     record {
       upto = omega arith;
       long = k ∙ u.long;
@@ -80,8 +80,8 @@ stringing-more {p} {e} {d} {m} {r = r} {at = at} {j = j} pre u h w q k =
       place = omega (arith, offset-next s j b, u.place, ap length w.is);
     }
 
-pub stringing-all : {p e d m : List ℕ} {at j : ℕ} → Stringing p e d m at j → layout.strings_count ≤ j → Stringed d (abs p e) at m
-stringing-all {p} {e} {j = j} u h =
+pub stringing_all : {p e d m : List ℕ} {at j : ℕ} → Stringing p e d m at j → layout.strings_count ≤ j → Stringed d (abs p e) at m
+stringing_all {p} {e} {j = j} u h =
     let q : j ≡ layout.strings_count = omega (arith, u.upto) in
     record { is = u.is ∙ rw (take-upto (abs p e) j (length-abs p e) u.upto h); ends = u.place ∙ rw (q, offset-all (abs p e) layout.strings_count (length-abs p e)) }
 

@@ -10,6 +10,7 @@ ghost use Rattle.packing.specs.Packing.{Packable, Stringed, Unpackable};
 use layout::StatePlaces;
 
 // Writes the lengths of the strings, two cells each.
+#[tactic(auto, using(crate::proofs::Writing::lengthing_none, crate::proofs::Writing::lengthing_more))]
 fn pack_lengths(pool: &[u8], ends: &[u32], state: &mut [u8])
     requires { Packable pool.now ends.now (length state.old) }
     ensures { state.new ≡ pasted state.old 0 (lengths (abs pool.now ends.now)) }
@@ -21,6 +22,7 @@ fn pack_lengths(pool: &[u8], ends: &[u32], state: &mut [u8])
 }
 
 // Writes the strings end to end behind the lengths, and tells where they end.
+#[tactic(auto, using(crate::proofs::Writing::string_room))]
 fn pack_strings(pool: &[u8], ends: &[u32], state: &mut [u8]) -> usize
     requires { Packable pool.now ends.now (length state.old) }
     ensures { Stringed state.old (abs pool.now ends.now) result state.new }
@@ -45,6 +47,7 @@ pub fn pack(pool: &[u8], ends: &[u32], state: &mut [u8])
 }
 
 // Lays the strings of a state at rest out in the store.
+#[tactic(auto, using(crate::proofs::Reading::unpacking_none))]
 pub fn unpack(state: &[u8], pool: &mut [u8], ends: &mut [u32])
     requires { Unpackable state.now (length pool.old) (length ends.old) }
     ensures { Holds pool.new ends.new (strings_in state.now) }

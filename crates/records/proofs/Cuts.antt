@@ -8,15 +8,15 @@ use native.Mathlib.Omega.{arith}
 use lib.ListN.{length, take, drop, length-drop}
 use lib.Seq.{take-add, length-take-le}
 use Rattle.std.specs.Prelude.{Ok, Err}
+use Rattle.lists.specs.LoopLaws.{ahead-zero, ahead-suc}
 use Rattle.language.specs.Values.{Record}
 use Rattle.cells.specs.Below.LayoutBounds.{RecordOk, WholeRecords}
 use Rattle.cells.proofs.Below.LayoutCellLaws.{each_append}
-use Rattle.cells.proofs.Below.ComponentLaws.{records_bytes-append, records_bytes-one, records-of, whole-records, records-none}
+use Rattle.cells.proofs.Below.ComponentLaws.{records_bytes-append, records_bytes-one, records-of, records-none}
 use Rattle.cells.specs.Below.Components.{record_bytes, records_bytes, record_in, records_in}
 use Rattle.lists.specs.Lists.{any, ahead}
 use Rattle.matching.proofs.Loops.{Split, split}
-use Rattle.records.proofs.Searches.{ahead-here, ahead-next}
-use Rattle.records.proofs.Steps.{EndsAt, Left, left_starts, ends-cells}
+use Rattle.records.proofs.Steps.{EndsAt, ends-cells}
 use Rattle.records.specs.Places.{Cut, of_address, Sought}
 
 -- ---- a cut
@@ -29,9 +29,6 @@ cut-none {s} w =
 module _ {s : List ℕ} {at k : ℕ} (c : Cut s at k) where
   pub cut_left : records_in (drop at s) ≡ drop k (records_in s)
   cut_left = records-of c.rest
-
-  pub cut-whole : {left : List ℕ} → Left s left at → WholeRecords left
-  cut-whole l = left_starts l (whole-records c.rest)
 
   pub cut-split : {e : ℕ} → EndsAt s at e → Split k (records_in s) (records_in (drop e s)) (record_in (drop at s))
   cut-split {e} h = split k (records_in s) (records_in (drop e s)) (record_in (drop at s)) (sym cut_left ∙ h.first)
@@ -81,12 +78,12 @@ module _ {n : ℕ} {s : List ℕ} {at k : ℕ} (g : Seeking n s at k) where
       record {
         cut = cut-next g.cut h;
         any_is = g.any_is ∙ rw (h.first, q);
-        ahead_is = g.ahead_is ∙ rw (h.first, ahead-next (of_address n) (record_in (drop at s)) (records_in (drop e s)) q) (omega arith);
+        ahead_is = g.ahead_is ∙ rw (h.first, ahead-suc (of_address n) (record_in (drop at s)) (records_in (drop e s)) q) (omega arith);
       }
 
   pub seeking-here : {e : ℕ} → EndsAt s at e → of_address n (record_in (drop at s)) ≡ true → Sought n s (Ok (record { records = k + 1; bytes = e }))
   seeking-here {e} h q =
-      let a : ahead (of_address n) (records_in (drop at s)) ≡ 0 = rw h.first (ahead-here (of_address n) (record_in (drop at s)) (records_in (drop e s)) q) in
+      let a : ahead (of_address n) (records_in (drop at s)) ≡ 0 = rw h.first (ahead-zero (of_address n) (record_in (drop at s)) (records_in (drop e s)) q) in
       record {
         is = sym (g.any_is ∙ rw (h.first, q));
         count = omega (arith, g.ahead_is, a);

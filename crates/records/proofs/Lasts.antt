@@ -4,7 +4,6 @@ use mathlib.Core.List.{List, [], ◌∷◌, ◌++◌}
 use Prim.Native.Nat.{ℕ, ◌+◌, ◌-◌, ◌≤◌, ◌<◌}
 use native.Mathlib.Omega.{arith}
 use lib.ListN.{length, take, drop, length-drop}
-use lib.Seq.{take-length}
 use Rattle.std.specs.Prelude.{Some, None}
 use Rattle.language.specs.Values.{Record}
 use Rattle.cells.specs.Below.LayoutBounds.{EncodedRecords, WholeRecords, last_size}
@@ -42,10 +41,6 @@ last-at {s} {k} w h q =
       starts = record { more = rw length-drop (omega arith); whole = whole-records e };
       is = ap (address_of_last 0) (rw a at l.is) ∙ last_of 0 (records_in (take (length s - 7 - k) s)) r;
     }
-
--- the cells from one on to the end
-pub tail_is : (at : ℕ) (s : List ℕ) → take (length s - at) (drop at s) ≡ drop at s
-tail_is at s = rw (← length-drop at s) (take-length (drop at s))
 
 -- what is told where there is one, and where there is none
 pub last-some : {s : List ℕ} {k a : ℕ} → WholeRecords s → 0 < length s → k ≡ two_at (length s - 2) s → Number (record_in (drop (length s - 7 - k) s)).addr 8388608 a → LastAddress s (Some a)

@@ -1,5 +1,4 @@
 pub mod Steps
-pub mod Searches
 pub mod Cuts
 pub mod Lasts
 pub mod Stamps

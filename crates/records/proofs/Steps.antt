@@ -73,11 +73,14 @@ module _ {s r t : List ℕ} (f : FrontRecord s r t) where
   pub record-some : 7 ≤ length r
   record-some = omega (arith, ap length f.is, record-length (record_in s))
 
+  pub front_shorter : length t < length s
+  front_shorter = omega (arith, record-cells, record-some)
+
   one_encoded : EncodedRecords r (record_in s ∷ [])
   one_encoded = record { is = f.is ∙ sym (records_bytes-one (record_in s)); all_ok = (f.first_ok, tt) }
 
-  pub record-starts : Starts r
-  record-starts = record { more = omega (arith, record-some); whole = whole-records one_encoded }
+  pub record_starts : Starts r
+  record_starts = record { more = omega (arith, record-some); whole = whole-records one_encoded }
 
   -- it is the record that the string begins with
   pub record-same : record_in r ≡ record_in s
@@ -103,9 +106,10 @@ ends-cells {s} {at} {e} h =
 pub record Left (s left : List ℕ) (at : ℕ) : Type 0 where
   pub is : left ≡ drop at s
   pub within : at ≤ length s
+  pub whole : WholeRecords left
 
-pub left-all : (s : List ℕ) → Left s s 0
-left-all s = record { is = refl; within = omega arith }
+pub left-all : {s : List ℕ} → WholeRecords s → Left s s 0
+left-all w = record { is = refl; within = omega arith; whole = w }
 
 module _ {s left : List ℕ} {at : ℕ} (l : Left s left at) where
   left-long : length left + at ≡ length s
@@ -120,9 +124,6 @@ module _ {s left : List ℕ} {at : ℕ} (l : Left s left at) where
   pub left-end : left ≡ [] → length s ≡ at
   left-end e = omega (arith, left-long, ap length e)
 
-  pub left_starts : WholeRecords (drop at s) → WholeRecords left
-  left_starts w = rw l.is w
-
   -- the record there, in the string
   module _ {r t : List ℕ} (f : FrontRecord left r t) where
     behind-is : t ≡ drop (at + length r) s
@@ -132,7 +133,7 @@ module _ {s left : List ℕ} {at : ℕ} (l : Left s left at) where
     here = record-same f ∙ ap record_in l.is
 
     pub left_next : Left s t (at + length r)
-    left_next = record { is = behind-is; within = omega (arith, left-long, record-cells f) }
+    left_next = record { is = behind-is; within = omega (arith, left-long, record-cells f); whole = f.rest }
 
     pub ends_here : EndsAt s at (at + length r)
     ends_here =

@@ -113,6 +113,7 @@ pub fn last_address(s: &[u8]) -> Option<usize>
 }
 
 // The place behind the record of an address; where there is none, the place behind all, by which a second string is searched on.
+#[tactic(auto, using(crate::proofs::Steps::front_shorter, crate::proofs::Steps::record_starts, crate::proofs::Steps::left_within))]
 pub fn find(s: &[u8], address: usize) -> Result<Place, Place>
     requires { WholeRecords s.now }
     ensures { Sought address s.now result }
@@ -180,6 +181,7 @@ fn reached_at(test: RecordTest, k: usize) -> bool
 }
 
 // How many of the records of `s` a test takes.
+#[tactic(auto, using(crate::proofs::Steps::front_shorter, crate::proofs::Steps::record_starts, crate::proofs::Steps::left_within))]
 pub fn count(s: &[u8], test: RecordTest) -> Sequence
     requires { RecordsCountable test s.now }
     ensures { TookRecords (until_records test.entry) s.now result }
@@ -209,6 +211,7 @@ pub fn count(s: &[u8], test: RecordTest) -> Sequence
 }
 
 // How many components and characters the records of `s` have, and their bytes.
+#[tactic(auto, using(crate::proofs::Steps::front_shorter, crate::proofs::Steps::record_starts, crate::proofs::Steps::left_within))]
 pub fn totals_of(s: &[u8]) -> Amount
     requires { WholeRecords s.now }
     ensures { Totalled s.now result }
@@ -242,6 +245,7 @@ pub fn put_record(dst: &mut [u8], address: usize, contents: &[u8])
 }
 
 // Writes the records of `src` at the front of `dst`, with the addresses after `last`, in their order.
+#[tactic(auto, using(crate::proofs::Steps::front_shorter, crate::proofs::Steps::record_starts, crate::proofs::Steps::left_within))]
 pub fn stamp(dst: &mut [u8], src: &[u8], last: usize)
     requires { Copyable dst.old src.now last }
     ensures { dst.new ≡ pasted dst.old 0 (records_bytes (stamped last (map (λ r. r.parts) (records_in src.now)))) }
@@ -258,6 +262,7 @@ pub fn stamp(dst: &mut [u8], src: &[u8], last: usize)
 
 // Writes them with the same addresses, the last record first.
 // Not one with `stamp`: there only the addresses change in a copy of the whole.
+#[tactic(auto, using(crate::proofs::Steps::front_shorter, crate::proofs::Steps::record_starts, crate::proofs::Steps::left_within))]
 pub fn stamp_reversed(dst: &mut [u8], src: &[u8], last: usize)
     requires { Copyable dst.old src.now last }
     ensures { dst.new ≡ pasted dst.old 0 (records_bytes (reverse (stamped last (map (λ r. r.parts) (records_in src.now))))) }

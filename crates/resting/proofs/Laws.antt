@@ -1,5 +1,6 @@
 -- Scalars cell by cell, and a state as its scalars and strings.
 use mathlib.Core.Path.{◌≡◌, refl, ap, sym, ◌∙◌}
+use mathlib.Core.Bool.{Bool, true, false, cond}
 use mathlib.Core.List.{List, [], ◌∷◌, ◌++◌, append_assoc}
 use Prim.Native.Nat.{ℕ, zero, suc, ◌+◌, ◌*◌, ◌≤◌, ◌<◌}
 use native.Mathlib.Nat.{le_of_suc-le-suc, not-suc-le-zero}
@@ -22,7 +23,7 @@ use Rattle.cells.specs.Cells.{pasted}
 use Rattle.packing.specs.Packing.{Packed}
 use Rattle.state.proofs.Standing.{numbers-long, number_most}
 use Rattle.state.specs.Working.{Lies}
-use Rattle.resting.specs.Resting.{Openable, Numbers}
+use Rattle.resting.specs.Resting.{Openable, ScalarsReadable, Numbers}
 
 three-later : (j : ℕ) (m : List ℕ) → three_at j (drop 3 m) ≡ three_at (3 + j) m
 three-later j m =
@@ -60,6 +61,10 @@ reading-all {m} {n} {k} u h =
     let e : k ≡ 8 = omega (arith, u.upto) in
     let l : take 8 n ≡ n = rw (← u.long) (take-length n) in
     sym l ∙ rw (sym e) u.is
+
+pub first-read : {m n : List ℕ} → n ≡ threes_in layout.scalars_count m → ScalarsReadable m → get_or n 0 0 ≤ 1
+unfolding threes_in
+first-read q r = rw q r.sign
 
 -- the loop that writes them
 pub record Writing (n d m : List ℕ) (k : ℕ) : Type 0 where
@@ -119,6 +124,18 @@ module _ {m : List ℕ} (pre : Openable m) where
 
   pub scalars-are : threes_in layout.scalars_count m ≡ scalars s
   scalars-are = ap (threes_in layout.scalars_count) parts ∙ threes-back (scalars s) (string_cells (strings s) ++ drop limit.state m)
+
+  -- the first is H
+  sign-most : (b : Bool) → cond b 1 0 ≤ 1
+  sign-most true = omega arith
+  sign-most false = omega arith
+
+  first-scalar : three_at 0 m ≡ cond s.store.plus 1 0
+  unfolding threes_in
+  first-scalar = ap (λ (l : List ℕ). get_or l 0 0) scalars-are
+
+  pub scalars-readable : ScalarsReadable m
+  scalars-readable = record { long = omega (arith, pre.long); sign = rw first-scalar (sign-most s.store.plus) }
 
   -- the part behind the scalars
   behind : take layout.strings_bytes (drop layout.first_length m) ≡ string_cells (strings s)

@@ -2,13 +2,14 @@
 use Rattle.std.specs.Prelude.{◌≡◌, List, ℕ, ◌≤◌, ◌<◌, length, get_or, take}
 use Rattle.language.specs.Limits as limit
 use Rattle.layout.specs.Bounds.{Fine as FineState}
+use Rattle.layout.specs.Cells.{three_at}
 use Rattle.layout.specs.Memory.{state_cells, state_of}
 use Rattle.layout.specs.Places as layout
 
--- so many cells and scalars
-pub record Scalars (cells numbers : ℕ) : Type 0 where
-  pub long : layout.first_length ≤ cells
-  pub count : numbers ≡ 8
+-- the lent memory m has eight scalars, of which the first is H
+pub record ScalarsReadable (m : List ℕ) : Type 0 where
+  pub long : layout.first_length ≤ length m
+  pub sign : three_at 0 m ≤ 1
 
 -- eight scalars that have a place in three cells each
 pub record Numbers (n : List ℕ) (cells : ℕ) : Type 0 where

@@ -6,33 +6,35 @@ ghost use Rattle.layout.specs.Cells.{three};
 ghost use Rattle.layout.specs.Memory.{state_of, threes_in, written};
 ghost use Rattle.layout.specs.Strings.{string_cells};
 ghost use Rattle.lists.specs.Lists.{each};
-ghost use Rattle.state.specs.Working.{HoldsState};
-ghost use Rattle.resting.specs.Resting.{Openable, Scalars, Numbers};
+ghost use Rattle.state.specs.Working.{HoldsState, row_of};
+ghost use Rattle.resting.specs.Resting.{Openable, ScalarsReadable, Numbers};
 ghost use Rattle.language.specs.Limits as limit;
 ghost use Rattle.layout.specs.Places.{scalars_count, first_length};
 
 use language::Machine;
 use layout::StatePlaces;
-use state::Working;
+use state::{Scalars, Working};
 use strings::Strings;
 
 // Reads the scalars, three cells each.
-fn read_scalars(state: &[u8], nums: &mut [u32])
-    requires { Scalars (length state.now) (length nums.old) }
-    ensures { nums.new ≡ threes_in scalars_count state.now }
+fn read_scalars(state: &[u8]) -> Scalars
+    requires { ScalarsReadable state.now }
+    ensures { row_of result ≡ threes_in scalars_count state.now }
 {
-    for (k, n) in nums.iter_mut().enumerate() {
-        *n = cells::three_at(state, 3 * k) as u32;
+    let mut row = [0; StatePlaces::SCALARS_COUNT];
+    for (k, n) in row.iter_mut().enumerate() {
+        *n = cells::three_at(state, 3 * k);
     }
+    Scalars::from_row(&row)
 }
 
 // Writes them.
-fn write_scalars(nums: &[u32], state: &mut [u8])
-    requires { Numbers nums.now (length state.old) }
-    ensures { state.new ≡ each three nums.now ++ drop first_length state.old }
+fn write_scalars(scalars: &Scalars, state: &mut [u8])
+    requires { Numbers (row_of scalars.now) (length state.old) }
+    ensures { state.new ≡ each three (row_of scalars.now) ++ drop first_length state.old }
 {
-    for (k, n) in nums.iter().enumerate() {
-        cells::put_three(state, 3 * k, *n as usize);
+    for (k, n) in scalars.row().iter().enumerate() {
+        cells::put_three(state, 3 * k, *n);
     }
 }
 
@@ -41,7 +43,7 @@ pub fn open(working: &mut Working, state: &[u8])
     requires { Openable state.now }
     ensures { HoldsState working.new (state_of state.now) }
 {
-    read_scalars(state, &mut working.nums);
+    working.scalars = read_scalars(state);
     working
         .strings
         .unpack(&state[StatePlaces::FIRST_LENGTH..Machine::STATE]);
@@ -60,6 +62,6 @@ pub fn write(working: &Working, state: &mut [u8])
     requires { limit.state ≤ length state.old }
     ensures { state.new ≡ written working.now state.old }
 {
-    write_scalars(&working.nums, state);
+    write_scalars(&working.scalars, state);
     write_strings(&working.strings, state);
 }

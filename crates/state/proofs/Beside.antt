@@ -80,7 +80,7 @@ module _ {t : List (List ℕ)} {n : List ℕ} {s : State} (h : Lies t n s) where
 
 -- ---- a read place
 
-place_set : (ps : List ℕ) → length ps ≡ 2 → (k : ℕ) → k < 2 → (v h : ℕ) (t : List ℕ)
+pub place_set : (ps : List ℕ) → length ps ≡ 2 → (k : ℕ) → k < 2 → (v h : ℕ) (t : List ℕ)
     → (h ∷ get_or (set ps k v) 0 0 ∷ get_or (set ps k v) 1 0 ∷ t) ≡ set (h ∷ get_or ps 0 0 ∷ get_or ps 1 0 ∷ t) (1 + k) v
 place_set [] l k b v h t = absurd (omega (arith, l))
 place_set (x ∷ []) l k b v h t = absurd (omega (arith, l))

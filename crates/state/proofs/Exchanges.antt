@@ -15,7 +15,7 @@ use Rattle.store.specs.Store.{exchanged}
 use Rattle.state.specs.Working.{Lies, on_store}
 use Rattle.state.specs.Blocks.{totalled, exprs_exchanged}
 use Rattle.state.proofs.Strings.{strings-expr}
-use Rattle.state.proofs.Scalars.{scalars-exprs}
+use Rattle.state.proofs.Totals.{scalars-exprs}
 use Rattle.state.proofs.Fineness.{fine-exprs}
 use Rattle.state.proofs.Sequences.{total-exchanged, each-exchanged}
 

@@ -26,9 +26,9 @@ use Rattle.store.specs.Store.{dropped_front}
 use Rattle.strings.specs.Strings.{Droppable, Pushable}
 use Rattle.state.specs.Working.{Lies, on_store, nth, reading, writing, char_count}
 use Rattle.state.specs.Blocks.{totalled, Lowerable, Raisable, pushed, PartsDroppable, PartsWritable}
-use Rattle.state.proofs.Standing.{number_is, string-is, numbers-long, pushable}
+use Rattle.state.proofs.Standing.{number_is, string-is, pushable}
 use Rattle.state.proofs.Strings.{strings-expr}
-use Rattle.state.proofs.Scalars.{scalars-exprs}
+use Rattle.state.proofs.Totals.{scalars-exprs}
 use Rattle.state.proofs.Fineness.{fine-exprs}
 use Rattle.state.proofs.Sequences.{total-ones, each_set, rest-bytes, bytes-within}
 
@@ -88,7 +88,6 @@ module _ {t : List (List ℕ)} {n : List ℕ} {s : State} (h : Lies t n s) {i k 
   pub parts-lowerable : Lowerable n k c
   parts-lowerable =
       record {
-        long = numbers-long h;
         components = omega (arith, number_is h 5, held-expr (λ x. 1) s.store i, total-ones old, pre.first.most);
         characters = omega (arith, number_is h 6, held-expr (λ x. length (chars x)) s.store i, counts, pre.first.chars_is);
       }
@@ -168,7 +167,6 @@ module _ {t : List (List ℕ)} {n : List ℕ} {s : State} (h : Lies t n s) {i : 
   pub parts-raisable : Raisable n k c
   parts-raisable =
       record {
-        long = numbers-long h;
         components = omega (arith, number_is h 5, pre.components_room);
         characters = omega (arith, number_is h 6, pre.chars_room);
       }

@@ -1,12 +1,13 @@
 -- Question 59: whether a changed store fits is a comparison of totals.
 use mathlib.Core.Path.{◌≡◌, refl, ◌∙◌}
-use mathlib.Core.Bool.{Bool, true, false, cond, ◌&&◌}
+use mathlib.Core.Bool.{Bool, true, false, cond, ◌&&◌, and-true}
 use mathlib.Core.List.{List, [], ◌∷◌, ◌++◌}
 use Prim.Native.Nat.{ℕ, suc, pred, ◌+◌, ◌≤◌, ◌<◌}
 use native.Mathlib.Omega.{arith}
-use lib.Dec.{T, leb}
+use lib.Dec.{leb}
 use lib.ListN.{length, length-append}
 use borrow.Author.Tests.{le-leb}
+use lib.Ieee.Bits.{is_true}
 use Rattle.store.specs.Below.Lists.{total, all}
 use Rattle.store.specs.Below.ListLaws.{total-append, total-set, all-total, failing}
 use Rattle.store.specs.Below.Limits as limit
@@ -80,10 +81,6 @@ fine-limited s f =
 
 -- ---- the five tests
 
-and-true : (b : Bool) → (b && true) ≡ b
-and-true true = refl
-and-true false = refl
-
 last_two : (b : Bool) → (b && true && true) ≡ b
 last_two true = refl
 last_two false = refl
@@ -98,13 +95,9 @@ fits-as : (t : Store) {c d o r : ℕ} {b : Bool} → components_held t ≡ c →
 unfolding fits
 fits-as t pc pd po pr pb = rw (pc, pd, po, pr, pb)
 
-so : (b : Bool) → T b → b ≡ true
-so true h = refl
-so false h = absurd h
-
 pub fits-limited : {s : Store} → Limited s → fits s ≡ true
 fits-limited {s} h =
-    fits-as s refl refl h.words_short refl (so (short_outputs s) h.outputs_short)
+    fits-as s refl refl h.words_short refl (is_true (short_outputs s) h.outputs_short)
     ∙ rw (le-leb (components_held s) limit.components h.components_most, le-leb (chars_held s) limit.characters h.chars_most, le-leb (records_held s) limit.records h.records_most)
 
 -- H is not counted
@@ -137,7 +130,7 @@ module _ (a : Arg) (s : Store) (l : pred (place a) < length s.exprs) (xs : List 
     fits-into =
         let c : components_held (into a xs s) ≡ components_held s + length xs = omega (arith, held-into (λ x. 1), total-ones xs) in
         let o : held overlong (into a xs s) ≡ total overlong xs = omega (arith, held-into overlong, h.words_short) in
-        fits-as (into a xs s) c (held-into (λ x. length (chars x))) o (recorded-into (λ r. 1)) (outputs-into ∙ so (short_outputs s) h.outputs_short)
+        fits-as (into a xs s) c (held-into (λ x. length (chars x))) o (recorded-into (λ r. 1)) (outputs-into ∙ is_true (short_outputs s) h.outputs_short)
         ∙ rw (← all-total short_word xs, le-leb (records_held s) limit.records h.records_most) (last_two (leb (components_held s + length xs) limit.components && leb (chars_held s + char_count xs) limit.characters && all short_word xs))
 
     pub fits-into-ok : Each Ok xs
@@ -217,6 +210,6 @@ module _ (a : Arg) (s : Store) (l : pred (place a) < length s.files) (xs : List 
       let c : components_held (stored a xs s) ≡ components_held s + total length xs =
       omega (arith, held-stored (λ x. 1), total-same (total (λ x. 1)) length total-ones xs) in
       let o : held overlong (stored a xs s) ≡ 0 = omega (arith, held-stored overlong, h.words_short, none_of (total overlong) (Each Ok) oks-short xs k) in
-      fits-as (stored a xs s) c (held-stored (λ x. length (chars x))) o recorded-stored (outputs-stored ∙ so (short_outputs s) h.outputs_short)
+      fits-as (stored a xs s) c (held-stored (λ x. length (chars x))) o recorded-stored (outputs-stored ∙ is_true (short_outputs s) h.outputs_short)
       ∙ middle (leb (components_held s + total length xs) limit.components && leb (chars_held s + total char_count xs) limit.characters)
       (leb (records_held s + length xs) limit.records)

@@ -12,30 +12,16 @@ use Rattle.store.specs.Below.Letters.Var.{expression, input, output, file}
 use Rattle.store.specs.Below.Program.{Arg}
 use Rattle.store.specs.Below.LanguageValues.{Component, Record, File, Store, chars, empty_file}
 use Rattle.store.specs.Below.Lists.{total}
-use Rattle.store.specs.Below.ListLaws.{failing, total-append, total-split, total-put}
+use Rattle.store.specs.Below.ListLaws.{failing, total-split, total-put}
 use Rattle.store.specs.Below.MachineArguments.{place, use_by, expr, file_of, records}
 use Rattle.store.specs.Below.Changes.{with_exprs, with_files, with_places, put, put_expr, put_file, past_file, past_by, past, held, recorded}
-use Rattle.store.proofs.Below.SumLaws.{held-put_expr, recorded-put_expr, held-put_file, recorded-put_file}
+pub use Rattle.store.proofs.Below.SumLaws.{removed-total}
+use Rattle.store.proofs.Below.SumLaws.{passed-total, held-put_expr, recorded-put_expr, held-put_file, recorded-put_file}
 use Rattle.store.specs.Below.LayoutMemory.{components_held, chars_held}
 use Rattle.state.specs.Limited.{short_word, Limited}
 use Rattle.state.specs.Blocks.{FirstParts}
 use Rattle.state.proofs.Sequences.{total-ones}
 use Rattle.state.specs.Working.{nth, reading, filing}
-
--- a file without the first k records after its pointer, and with the pointer behind them
-pub removed-total : (g : Record → ℕ) (f : File) (k : ℕ) → total g (f.before ++ drop k f.after) + total g (take k f.after) ≡ total g (records f)
-removed-total g f k =
-    omega (arith, total-append g f.before (drop k f.after), total-append g f.before f.after, total-split g k f.after)
-
-passed-total : (g : Record → ℕ) (f : File) (k : ℕ) → total g ((f.before ++ take k f.after) ++ drop k f.after) ≡ total g (records f)
-passed-total g f k =
-    omega (
-      arith,
-      total-append g (f.before ++ take k f.after) (drop k f.after),
-      total-append g f.before (take k f.after),
-      total-append g f.before f.after,
-      total-split g k f.after,
-    )
 
 module _ (s : Store) (h : Limited s) where
   -- expressions that count no more

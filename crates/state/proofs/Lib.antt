@@ -1,13 +1,12 @@
 pub mod Standing
 pub mod Sequences
 pub mod Strings
-pub mod Scalars
+pub mod Totals
 pub mod Fineness
 pub mod Expressions
 pub mod Beside
 pub mod Exchanges
 pub mod Autos
-pub mod Lists
 pub mod Ties
 pub mod Fits
 pub mod Freed

@@ -3,18 +3,19 @@ use mathlib.Core.Path.{◌≡◌, refl, sym, ap, ◌∙◌}
 use mathlib.Core.Bool.{Bool, true, false}
 use mathlib.Core.List.{List, [], ◌∷◌, ◌++◌, reverse_aux, reverse-reverse}
 use mathlib.Core.Logic.{◌⊎◌, ⊎_elim}
-use Prim.Native.Nat.{ℕ, zero, suc, ◌≤◌, ◌<◌}
+use Prim.Native.Nat.{ℕ, ◌≤◌, ◌<◌}
 use native.Mathlib.Omega.{arith}
 use lib.ListN.{length, get_or, take, drop, set, length-set, length-append, length-reverse, take-append-drop}
 use lib.Seq.{take-append_seam, drop-append_seam, get_or-set_other, set-get_or}
+use Rattle.std.proofs.lemmas.Bool.{cases_order}
 use Rattle.store.specs.Below.Lists.{total}
 use Rattle.store.specs.Below.ListLaws.{total-reverse, total-set}
 use Rattle.store.specs.Below.LanguageValues.{Component}
 use Rattle.store.specs.Below.LayoutBounds.{Each}
 use Rattle.store.proofs.Below.LayoutCellLaws.{each_at}
 use Rattle.store.specs.Below.Components.{component_bytes, components_bytes}
-use Rattle.store.proofs.Below.GapsParts.{same_or}
 use Rattle.state.specs.Working.{turned}
+pub use Rattle.layout.specs.EachLaws.{each_set}
 
 module _ {X : Type 0} where
   pub total-ones : (xs : List X) → total (λ x. 1) xs ≡ length xs
@@ -25,11 +26,6 @@ module _ {X : Type 0} where
   total-same f g h [] = refl
   total-same f g h (x ∷ xs) = omega (arith, h x, total-same f g h xs)
 
-  pub each_set : (P : X → Type 0) (xs : List X) (i : ℕ) (x : X) → Each P xs → P x → Each P (set xs i x)
-  each_set P [] i x h k = tt
-  each_set P (y ∷ xs) zero x h k = (k, h.1)
-  each_set P (y ∷ xs) (suc i) x h k = (h.0, each_set P xs i x h.1 k)
-
   -- ---- two elements exchanged
 
   module _ (d : X) (xs : List X) (i j : ℕ) where
@@ -37,7 +33,7 @@ module _ {X : Type 0} where
     get_d-exchanged =
         ⊎_elim (λ (q : j ≡ i). rw (q, set-get_or xs i d))
         (λ (w : (j < i) ⊎ (i < j)). get_or-set_other xs i j (get_or xs j d) d (λ q. ⊎_elim (λ k. omega arith) (λ k. omega arith) w))
-        (same_or j i)
+        (cases_order j i)
 
     pub total-exchanged : (f : X → ℕ) → i < length xs → j < length xs → total f (set (set xs i (get_or xs j d)) j (get_or xs i d)) ≡ total f xs
     total-exchanged f a b =

@@ -6,6 +6,7 @@ use mathlib.Core.List.{List, [], ◌∷◌}
 use native.Mathlib.Omega.{arith}
 use lib.Dec.{eqb}
 use lib.ListN.{length, get_or, drop, set}
+use Rattle.lists.specs.BoolLaws.{sign-back}
 use Rattle.store.specs.Below.Limits as limit
 use Rattle.store.specs.Below.Letters.Letter.{E}
 use Rattle.store.specs.Below.LanguageValues.{Store, State}
@@ -28,10 +29,6 @@ use Rattle.state.specs.Blocks.{Told, ReadTo, ExprLent, OutputLong}
 sign-most : (b : Bool) → cond b 1 0 ≤ limit.addresses
 sign-most true = omega arith
 sign-most false = omega arith
-
-sign-is : (b : Bool) → eqb (cond b 1 0) 1 ≡ b
-sign-is true = refl
-sign-is false = refl
 
 module _ {t : List (List ℕ)} {n : List ℕ} {s : State} (h : Lies t n s) where
   pub state_of : state_by t n ≡ s
@@ -69,7 +66,7 @@ module _ {t : List (List ℕ)} {n : List ℕ} {s : State} (h : Lies t n s) where
   number_most k = rw h.numbers (each_at (λ x. x ≤ limit.addresses) 0 (omega arith) (scalars s) scalars-most k)
 
   pub plus-is : eqb (get_or n layout.plus_scalar 0) 1 ≡ s.store.plus
-  plus-is = rw h.numbers (sign-is s.store.plus)
+  plus-is = rw h.numbers (sign-back s.store.plus)
 
   pub string-is : (i : ℕ) → string i t ≡ string i (strings s)
   string-is i = ap (string i) h.strings_is
@@ -114,7 +111,7 @@ expr-lent {s = s} h {i} {r} b w m =
     let c : Encoded r (expr s.store (nth E i)) = record { is = w ∙ string-is h i ∙ x.is; all_ok = x.all_ok } in
     record { stands = record { is = refl; fine = h.fine }; encoded = c; whole = whole-components c; is = components-of c; most = m }
 
-place_of : (m : List ℕ) (h : ℕ) (ps t : List ℕ) → m ≡ (h ∷ get_or ps 0 0 ∷ get_or ps 1 0 ∷ t) → (k : ℕ) → k < 2 → get_or m (1 + k) 0 ≡ get_or ps k 0
+pub place_of : (m : List ℕ) (h : ℕ) (ps t : List ℕ) → m ≡ (h ∷ get_or ps 0 0 ∷ get_or ps 1 0 ∷ t) → (k : ℕ) → k < 2 → get_or m (1 + k) 0 ≡ get_or ps k 0
 place_of m h ps t q zero b = rw q
 place_of m h ps t q (suc zero) b = rw q
 place_of m h ps t q (suc (suc k)) b = absurd (omega arith)

@@ -5,7 +5,7 @@ use Prim.Native.Nat.{ℕ, zero, suc, ◌+◌, ◌*◌, ◌<◌}
 use native.Mathlib.Nat.{suc-add, zero-add}
 use native.Mathlib.Omega.{arith}
 use lib.ListN.{length, set, length-set, length-append, length-map}
-use lib.Seq.{set-append_left}
+use lib.Seq.{set-append_left, map-set}
 use Rattle.store.specs.Below.Lists.{each}
 use Rattle.store.specs.Below.Limits as limit
 use Rattle.store.specs.Below.LanguageValues.{Component, File, State}
@@ -23,11 +23,6 @@ set_append_right : {X : Type 0} (xs ys : List X) (k i : ℕ) (y : X) → length 
 set_append_right [] ys k i y h = rw (sym h) (ap (λ n. set ys n y) (zero-add i))
 set_append_right (x ∷ xs) ys k i y h =
     rw (sym h, suc-add (length xs) i) (ap (λ (l : List _). x ∷ l) (set_append_right xs ys (length xs) i y refl))
-
-set-map : {X Y : Type 0} (f : X → Y) (xs : List X) (i : ℕ) (x : X) → map f (set xs i x) ≡ set (map f xs) i (f x)
-set-map f [] i x = refl
-set-map f (y ∷ xs) zero x = refl
-set-map f (y ∷ xs) (suc i) x = ap (λ (l : List _). f y ∷ l) (set-map f xs i x)
 
 -- string i of a file's two strings
 set-file_strings : (fs : List File) (i : ℕ) (g : File)
@@ -60,7 +55,7 @@ module _ (s : State) (es : length s.store.exprs ≡ limit.expressions) (fs : len
       → strings (on_store (with_exprs (set s.store.exprs i xs)) s) ≡ set (strings s) i (components_bytes xs)
   unfolding strings on_store with_exprs
   strings-expr i xs h =
-      rw (set-map components_bytes s.store.exprs i xs)
+      rw (map-set components_bytes s.store.exprs i xs)
       (sym (set-append_left expr_strings (both_strings ++ last_strings) i (components_bytes xs) (rw exprs-long h)))
 
   -- file i becomes g, and the last address m

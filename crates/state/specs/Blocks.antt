@@ -45,19 +45,12 @@ unfoldable pub totalled : ℕ → ℕ → List ℕ → List ℕ
 totalled c d n = set (set n layout.components_scalar c) 6 d
 
 pub record Raisable (n : List ℕ) (parts chars : ℕ) : Type 0 where
-  pub long : length n ≡ 8
   pub components : get_or n layout.components_scalar 0 + parts ≤ limit.components
   pub characters : get_or n layout.characters_scalar 0 + chars ≤ limit.characters
 
 pub record Lowerable (n : List ℕ) (parts chars : ℕ) : Type 0 where
-  pub long : length n ≡ 8
   pub components : parts ≤ get_or n layout.components_scalar 0
   pub characters : chars ≤ get_or n layout.characters_scalar 0
-
-pub record Totals (n : List ℕ) (parts chars : ℕ) : Type 0 where
-  pub long : length n ≡ 8
-  pub components : parts < 4294967296
-  pub characters : chars < 4294967296
 
 -- ---- parts of an expression
 

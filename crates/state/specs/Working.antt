@@ -1,5 +1,6 @@
 -- The state at work: its strings and its eight scalars, and what a value of it holds.
-use Rattle.std.specs.Prelude.{◌≡◌, Bool, true, false, cond, List, ◌++◌, reverse, ℕ, suc, length}
+use Rattle.std.specs.Prelude.{◌≡◌, Bool, true, false, cond, List, [], ◌∷◌, ◌++◌, reverse, ℕ, suc, length, get_or}
+use Rattle.state.specs.declared.Scalars.{Scalars}
 use Rattle.store.specs.Below.Lists.{total}
 use Rattle.store.specs.Below.Letters.{Letter}
 use Rattle.store.specs.Below.Letters.Letter.{A, B, C, D, Z}
@@ -14,6 +15,10 @@ pub record Lies (t : List (List ℕ)) (n : List ℕ) (s : State) : Type 0 where
   pub strings_is : t ≡ strings s
   pub numbers : n ≡ scalars s
   pub fine : Fine s
+
+-- the scalars as a value has them, in the order in which they lie at rest
+abbrev pub row_of : Scalars → List ℕ
+row_of n = cond n.plus 1 0 ∷ get_or n.places 0 0 ∷ get_or n.places 1 0 ∷ n.next ∷ n.last ∷ n.components ∷ n.characters ∷ n.records ∷ []
 
 -- they are those of a state
 abbrev pub LiesSo : List (List ℕ) → List ℕ → Type 0

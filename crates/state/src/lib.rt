@@ -1,18 +1,17 @@
 // The state at work, as one value: what contracts see of it is the machine's state.
 #![tactic(auto)]
 
-ghost use Rattle.std.specs.Prelude.{◌≡◌, ◌<◌, ◌+◌, ◌-◌, true, false, cond, length, get_or};
+ghost use Rattle.std.specs.Prelude.{◌≡◌, ◌<◌, ◌≤◌, ◌+◌, ◌-◌, true, false, cond, length, get_or};
 ghost use Rattle.store.specs.Below.Letters.Letter.{I, Q};
 ghost use Rattle.store.specs.Below.Changes.{with_plus, minus_unless, into, printed, past};
 ghost use Rattle.store.specs.Below.Components.{components_in};
 ghost use Rattle.store.specs.Below.Limits as limit;
-ghost use Rattle.store.specs.Below.LayoutPlaces.{components_scalar, characters_scalar};
+ghost use Rattle.store.specs.Below.LayoutPlaces.{plus_scalar, next_scalar, last_scalar, components_scalar, characters_scalar, records_scalar};
 ghost use Rattle.strings.specs.Strings.{Pushable};
-ghost use Rattle.state.specs.Working.{HoldsState, Stands, on_store, nth, reading, writing};
-ghost use Rattle.state.specs.Blocks.{Told, ReadTo, ExprLent, OutputLong, Readable, exprs_exchanged, pushed, totalled, Raisable, Lowerable, Totals, PartsDroppable, PartsWritable, Printable};
+ghost use Rattle.state.specs.Working.{HoldsState, Stands, on_store, nth, reading, writing, row_of};
+ghost use Rattle.state.specs.Blocks.{Told, ReadTo, ExprLent, OutputLong, Readable, exprs_exchanged, pushed, totalled, Raisable, Lowerable, PartsDroppable, PartsWritable, Printable};
 
 use components::Amount;
-use gaps::from_cells;
 use layout::StatePlaces;
 use std::marker::Model;
 use strings::Strings;
@@ -59,11 +58,7 @@ impl Source {
         if self.removes {
             return amount;
         }
-        Amount {
-            parts: 0,
-            bytes: 0,
-            chars: 0,
-        }
+        Amount::NONE
     }
 
     // How many of `k` are added, where they are written elsewhere: none where they are removed here.
@@ -85,54 +80,92 @@ impl Source {
     }
 }
 
-// The strings, and eight numbers: H, how much of the inputs is read, the next instruction, the last number of a record, and the totals. A row and no
-// struct of eight: the specification has them as one list, at rest too, and `number` reads any of them.
+// H, how much of the inputs is read, the next instruction, the last number of a record, and the totals.
+#[derive(Clone, Copy, Debug, Default, PartialEq, Eq)]
+pub struct Scalars {
+    pub plus: bool,
+    pub places: [usize; 2],
+    pub next: usize,
+    pub last: usize,
+    pub components: usize,
+    pub characters: usize,
+    pub records: usize,
+}
+
+impl Scalars {
+    // The scalars of a row, as they lie at rest.
+    pub fn from_row(row: &[usize; StatePlaces::SCALARS_COUNT]) -> Scalars
+        requires { get_or row.now plus_scalar 0 ≤ 1 }
+        ensures { row_of result ≡ row.now }
+    {
+        Scalars {
+            plus: row[StatePlaces::PLUS_SCALAR] == 1,
+            places: [
+                row[StatePlaces::FIRST_PLACE],
+                row[StatePlaces::SECOND_PLACE],
+            ],
+            next: row[StatePlaces::NEXT_SCALAR],
+            last: row[StatePlaces::LAST_SCALAR],
+            components: row[StatePlaces::COMPONENTS_SCALAR],
+            characters: row[StatePlaces::CHARACTERS_SCALAR],
+            records: row[StatePlaces::RECORDS_SCALAR],
+        }
+    }
+
+    // The row that they lie in at rest.
+    pub fn row(&self) -> [usize; StatePlaces::SCALARS_COUNT]
+        ensures { result ≡ row_of self.now }
+    {
+        [
+            usize::from(self.plus),
+            self.places[0],
+            self.places[1],
+            self.next,
+            self.last,
+            self.components,
+            self.characters,
+            self.records,
+        ]
+    }
+
+    // Adds to the totals of components and characters.
+    #[tactic(auto, unfolding(crate::specs::Blocks::totalled))]
+    pub fn raise(&mut self, amount: Amount)
+        requires { Raisable (row_of self.old) amount.parts amount.chars }
+        ensures { row_of self.new ≡ totalled (get_or (row_of self.old) components_scalar 0 + amount.parts) (get_or (row_of self.old) characters_scalar 0 + amount.chars) (row_of self.old) }
+    {
+        self.components += amount.parts;
+        self.characters += amount.chars;
+    }
+
+    // Takes from the totals of components and characters.
+    #[tactic(auto, unfolding(crate::specs::Blocks::totalled))]
+    pub fn lower(&mut self, amount: Amount)
+        requires { Lowerable (row_of self.old) amount.parts amount.chars }
+        ensures { row_of self.new ≡ totalled (get_or (row_of self.old) components_scalar 0 - amount.parts) (get_or (row_of self.old) characters_scalar 0 - amount.chars) (row_of self.old) }
+    {
+        self.components -= amount.parts;
+        self.characters -= amount.chars;
+    }
+}
+
+// The state at work: its strings and its scalars.
 #[derive(Drop)]
 pub struct Working {
     pub strings: Strings,
-    pub nums: [u32; StatePlaces::SCALARS_COUNT],
+    pub scalars: Scalars,
 }
 
 impl Model for Working {
     ghost use Rattle.store.specs.Below.LanguageValues.{State};
     ghost use Rattle.store.specs.Below.LayoutMemory.{state_by};
-    ghost use Rattle.state.specs.Working.{LiesSo};
+    ghost use Rattle.state.specs.Working.{LiesSo, row_of};
 
     ghost Value = { State };
 
-    ghost view = { λ w. state_by w.strings w.nums };
+    ghost view = { λ w. state_by w.strings (row_of w.scalars) };
 
-    ghost invariant = { λ w. LiesSo w.strings w.nums };
-}
-
-// Sets the totals of components and characters.
-#[tactic(auto, unfolding(crate::specs::Blocks::totalled))]
-fn set_totals(nums: &mut [u32], parts: usize, chars: usize)
-    requires { Totals nums.old parts chars }
-    ensures { nums.new ≡ totalled parts chars nums.old }
-{
-    from_cells::write(nums, StatePlaces::COMPONENTS_SCALAR, parts);
-    from_cells::write(nums, StatePlaces::CHARACTERS_SCALAR, chars);
-}
-
-// Adds to the totals of components and characters.
-pub fn raise(nums: &mut [u32], amount: Amount)
-    requires { Raisable nums.old amount.parts amount.chars }
-    ensures { nums.new ≡ totalled (get_or nums.old components_scalar 0 + amount.parts) (get_or nums.old characters_scalar 0 + amount.chars) nums.old }
-{
-    let c = from_cells::read(nums, StatePlaces::COMPONENTS_SCALAR);
-    let d = from_cells::read(nums, StatePlaces::CHARACTERS_SCALAR);
-    set_totals(nums, c + amount.parts, d + amount.chars);
-}
-
-// Takes from the totals of components and characters.
-pub fn lower(nums: &mut [u32], amount: Amount)
-    requires { Lowerable nums.old amount.parts amount.chars }
-    ensures { nums.new ≡ totalled (get_or nums.old components_scalar 0 - amount.parts) (get_or nums.old characters_scalar 0 - amount.chars) nums.old }
-{
-    let c = from_cells::read(nums, StatePlaces::COMPONENTS_SCALAR);
-    let d = from_cells::read(nums, StatePlaces::CHARACTERS_SCALAR);
-    set_totals(nums, c - amount.parts, d - amount.chars);
+    ghost invariant = { λ w. LiesSo w.strings (row_of w.scalars) };
 }
 
 // Puts bytes behind string `i` or before it. A bool chooses the end, and there are no two functions: what is promised is said over it, `pushed : Bool -> ..`,
@@ -150,20 +183,47 @@ fn push(strings: &mut Strings, i: usize, at_end: bool, bytes: &[u8])
 }
 
 impl Working {
-    // What is held is a state within its bounds: for a caller that reads nothing else of it.
+    // What is held is a state within its bounds: for a caller that promises so of a state of which it reads nothing.
     #[inline]
     pub fn stands(&self)
         ensures { Stands self.now }
     {
-        let _ = &self.nums;
+        let _ = &self.scalars;
     }
 
-    // Scalar `k`.
-    pub fn number(&self, k: usize) -> usize
-        requires { k < 8 }
-        ensures { Told self.now k result }
+    // How many components are held.
+    pub fn components(&self) -> usize
+        ensures { Told self.now components_scalar result }
     {
-        from_cells::read(&self.nums, k)
+        self.scalars.components
+    }
+
+    // How many characters are held.
+    pub fn characters(&self) -> usize
+        ensures { Told self.now characters_scalar result }
+    {
+        self.scalars.characters
+    }
+
+    // How many records are held.
+    pub fn records(&self) -> usize
+        ensures { Told self.now records_scalar result }
+    {
+        self.scalars.records
+    }
+
+    // The instruction that comes next.
+    pub fn next_instruction(&self) -> usize
+        ensures { Told self.now next_scalar result }
+    {
+        self.scalars.next
+    }
+
+    // The last address that was given.
+    pub fn last(&self) -> usize
+        ensures { Told self.now last_scalar result }
+    {
+        self.scalars.last
     }
 
     // The bytes of expression `i`.
@@ -175,13 +235,12 @@ impl Working {
     }
 
     // Takes the first components of expression `i` away, which are so much.
-    #[tactic(auto, using(crate::proofs::Autos::droppable, crate::proofs::Autos::lowerable))]
     pub fn drop_parts(&mut self, i: usize, amount: Amount)
         requires { PartsDroppable self.old i amount.parts amount.bytes amount.chars }
         ensures { HoldsState self.new (on_store (past (nth (reading true) i) amount.parts) self.old) }
     {
         self.strings.drop_front(i, amount.bytes);
-        lower(&mut self.nums, amount);
+        self.scalars.lower(amount);
     }
 
     // Reads past the first components of an expression, which are so much: removes them, or leaves all as it is.
@@ -189,7 +248,7 @@ impl Working {
         requires { PartsDroppable self.old source.i amount.parts amount.bytes amount.chars }
         ensures { HoldsState self.new (on_store (past (nth (reading source.removes) source.i) amount.parts) self.old) }
     {
-        let _ = &self.nums;
+        self.stands();
         if source.removes {
             self.drop_parts(source.i, amount);
         }
@@ -201,7 +260,7 @@ impl Working {
         ensures { HoldsState self.new (on_store (into (nth (writing target.at_end) target.j) (components_in new.now)) self.old) }
     {
         push(&mut self.strings, target.j, target.at_end, new);
-        raise(&mut self.nums, amount);
+        self.scalars.raise(amount);
     }
 
     // Turns H minus, unless the test was reached.
@@ -209,7 +268,7 @@ impl Working {
         ensures { HoldsState self.new (on_store (minus_unless reached) self.old) }
     {
         if !reached {
-            self.nums[StatePlaces::PLUS_SCALAR] = 0;
+            self.scalars.plus = false;
         }
     }
 
@@ -217,7 +276,7 @@ impl Working {
     pub fn is_plus(&self) -> bool
         ensures { result ≡ self.now.store.plus }
     {
-        from_cells::read(&self.nums, StatePlaces::PLUS_SCALAR) == 1
+        self.scalars.plus
     }
 
     // How many characters of input `i` are read.
@@ -225,7 +284,7 @@ impl Working {
         requires { i < limit.inputs }
         ensures { ReadTo self.now i result }
     {
-        from_cells::read(&self.nums, StatePlaces::FIRST_PLACE + i)
+        self.scalars.places[i]
     }
 
     // The length of output `i`.
@@ -257,7 +316,7 @@ impl Working {
     pub fn set_plus(&mut self, plus: bool)
         ensures { HoldsState self.new (on_store (with_plus plus) self.old) }
     {
-        self.nums[StatePlaces::PLUS_SCALAR] = u32::from(plus);
+        self.scalars.plus = plus;
     }
 
     // Reads past `k` characters of input `i`.
@@ -265,7 +324,6 @@ impl Working {
         requires { Readable self.old i k }
         ensures { HoldsState self.new (on_store (past (nth I i) k) self.old) }
     {
-        let n = from_cells::read(&self.nums, StatePlaces::FIRST_PLACE + i);
-        from_cells::write(&mut self.nums, StatePlaces::FIRST_PLACE + i, n + k);
+        self.scalars.places[i] += k;
     }
 }

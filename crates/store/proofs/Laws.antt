@@ -9,13 +9,13 @@ use lib.Seq.{take-take, drop-drop}
 use Rattle.gaps.specs.Below.Strings.{used}
 use Rattle.gaps.specs.Below.LayoutPlaces as layout
 use Rattle.gaps.specs.Pool.{lo, hi, str, abs, string, Ordered, Fine, Holds}
-use Rattle.gaps.specs.Gaps.{pushed_front, pushed_back}
+use Rattle.gaps.specs.Gaps.{pushed_front, pushed_back, Roomy, Made}
 pub use Rattle.gaps.proofs.Index.{used-set}
 use Rattle.gaps.proofs.Index.{offset-within}
 use Rattle.gaps.proofs.Parts.{drop-take}
 pub use Rattle.gaps.proofs.Laws.{abs-of, good, after, fine-holds, count, length-abs}
 use Rattle.gaps.proofs.Laws.{string-is, shaped, changed, ordered-set, str-other, str-lo, str-hi, low-cell, high-cell}
-use Rattle.store.specs.Store.{Whole, dropped_front, dropped_back}
+use Rattle.store.specs.Store.{Whole, dropped_front, dropped_back, Pushable}
 
 -- reading
 
@@ -77,3 +77,9 @@ module _ (s : List (List ℕ)) (i : ℕ) (b : i < length s) where
   pub used-pushed-back : (v : List ℕ) → used (pushed_back i v s) ≡ used s + length v
   unfolding pushed_back
   used-pushed-back v = omega (arith, used-set s i (string i s ++ v) b, length-append (string i s) v)
+
+-- pushing
+
+pub has_room : {p e p' e' : List ℕ} {i g n sc : ℕ} → Pushable p e i n sc → Made p' e' (abs p e) g n → Roomy p' e' i g n
+has_room pre made =
+    record { fine = made.holds.fine; index = pre.index; gap = made.gap; total = omega (arith, pre.total, ap used made.holds.is) }

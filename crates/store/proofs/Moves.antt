@@ -6,12 +6,12 @@ use Prim.Native.Nat.{ℕ, ◌+◌, ◌-◌, ◌≤◌, ◌<◌}
 use native.Mathlib.Omega.{arith}
 use lib.ListN.{length, take, drop, set, length-append, length-take, length-drop, length-set, take-append-drop}
 use lib.Seq.{take_all, take-append_seam, drop-append_seam, get_or-set_same, get_or-set_other, set-set, set_comm, set-get_or}
+use Rattle.std.proofs.lemmas.Bool.{cases_order}
 use Rattle.gaps.specs.Below.Cells.{pasted}
 use Rattle.gaps.proofs.Below.CellsLaws.{pasted-front}
 use Rattle.gaps.specs.Below.Strings.{used}
 use Rattle.gaps.specs.Pool.{abs, string, Holds}
 use Rattle.gaps.specs.Gaps.{pushed_front}
-use Rattle.gaps.proofs.Parts.{same_or}
 use Rattle.gaps.proofs.Laws.{length-abs, after}
 use Rattle.store.specs.Store.{Long, Copyable, dropped_front, dropped_back, Pushable, Movable, moved_front, moved_back_to_front, Exchangeable, exchanged}
 use Rattle.store.proofs.Laws.{string-most, used-dropped-front, used-dropped-back}
@@ -111,7 +111,7 @@ module _ (s : List (List ℕ)) (i j : ℕ) (bi : i < length s) (bj : j < length 
       rw (q, front_same s i bi (length (string i s)), back-same s i bi (length (string i s)) refl, set-get_or s i []) (sym (set-get_or s i []))
 
   exchange-is : moved_back_to_front j i (length (string j s)) (moved_front i j (length (string i s)) s) ≡ exchanged i j s
-  exchange-is = ⊎_elim together (λ (w : (j < i) ⊎ (i < j)). apart (λ q. ⊎_elim (λ k. omega arith) (λ k. omega arith) w)) (same_or j i)
+  exchange-is = ⊎_elim together (λ (w : (j < i) ⊎ (i < j)). apart (λ q. ⊎_elim (λ k. omega arith) (λ k. omega arith) w)) (cases_order j i)
 
 module _ {p e : List ℕ} {i j n m sc hd : ℕ} (pre : Exchangeable p e i j sc hd) (ln : Long p e i n) (lm : Long p e j m) where
   pub first-movable : {sc' hd' : ℕ} → 65536 ≤ sc' → 32768 ≤ hd' → Movable p e i j n sc' hd'
@@ -128,7 +128,7 @@ module _ {p e : List ℕ} {i j n m sc hd : ℕ} (pre : Exchangeable p e i j sc h
       let b : j < length t = rw (length-set (abs p e) i (drop n (string i (abs p e))), length-abs p e) pre.target in
       rw (front-parts (abs p e) i j ne n v (drop n (string i (abs p e))) (sym (take-append-drop n (string i (abs p e)))) l, get_or-set_same t j (v ++ string j (abs p e)) [] b, length-append)
       (omega (arith, lm.is)))
-      (same_or j i)
+      (cases_order j i)
 
   pub second-movable : {p₁ e₁ : List ℕ} {sc' hd' : ℕ} → Holds p₁ e₁ (moved_front i j n (abs p e)) → 65536 ≤ sc' → 32768 ≤ hd' → Movable p₁ e₁ j i m sc' hd'
   second-movable h x y = record { fine = h.fine; source = pre.target; target = pre.source; within = rw h.is still; spare = x; room = y }

@@ -61,6 +61,7 @@ fn drop_back(pool: &[u8], ends: &mut [u32], i: usize, n: usize)
 
 // Puts `bytes` before string `i`. Inlined, as `push_back`: a step of the sample programs takes up to a twentieth more without it.
 #[inline(always)]
+#[tactic(auto, using(crate::proofs::Laws::has_room))]
 pub fn push_front(pool: &mut [u8], ends: &mut [u32], scratch: &mut [u8], i: usize, bytes: &[u8])
     requires { Pushable pool.old ends.old i (length bytes.now) (length scratch.old) }
     ensures { Holds pool.new ends.new (pushed_front i bytes.now (abs pool.old ends.old)) }
@@ -71,6 +72,7 @@ pub fn push_front(pool: &mut [u8], ends: &mut [u32], scratch: &mut [u8], i: usiz
 
 // Puts `bytes` behind string `i`.
 #[inline(always)]
+#[tactic(auto, using(crate::proofs::Laws::has_room))]
 pub fn push_back(pool: &mut [u8], ends: &mut [u32], scratch: &mut [u8], i: usize, bytes: &[u8])
     requires { Pushable pool.old ends.old i (length bytes.now) (length scratch.old) }
     ensures { Holds pool.new ends.new (pushed_back i bytes.now (abs pool.old ends.old)) }
@@ -153,19 +155,4 @@ pub fn exchange(
     let m = len_of(pool, ends, j);
     move_front(pool, ends, scratch, hold, i, j, n);
     move_back_to_front(pool, ends, scratch, hold, j, i, m);
-}
-
-// Of `cells`, passed on to the crates above.
-pub mod from_cells {
-    pub use gaps::from_cells::{read, write};
-}
-
-// Of `language`, passed on to the crates above.
-pub mod from_language {
-    pub use gaps::from_language::Machine;
-}
-
-// Of `layout`, passed on to the crates above.
-pub mod from_layout {
-    pub use gaps::from_layout::StatePlaces;
 }

@@ -18,7 +18,9 @@ use lib.ListN.{length, get_or}
 use lib.Ieee.Bits.{is_true}
 use borrow.Author.Tests.{lt-ltb, le-ltb}
 use Rattle.std.specs.List.{position_or_len}
-use Rattle.std.specs.Prelude.{⊤, Option, Some, None, cond, not, position}
+use Rattle.std.specs.Prelude.{⊤, Option, Some, None, cond, position}
+use Rattle.lists.specs.LoopLaws.{ahead-zero, ahead-suc}
+use Rattle.lists.specs.SearchLaws.{ahead-is}
 use Rattle.packed.specs.Below.Lists.{ahead, filled, bytes_equal}
 use Rattle.packed.specs.Below.Program.{Label, Entry, no_entry, label_at, meets}
 use Rattle.packed.proofs.Below.LayoutCellLaws.{length-tab, get_d-tab}
@@ -57,43 +59,29 @@ module _ (c w : List ℕ) (e : ℕ) (keyed : Keyed c e) {l : ℕ} {s : TextRef} 
 
 -- the place of the first that passes, by how many stand before it
 module _ {X : Type 0} (q : X → Bool) where
-  ahead-place : (xs : List X) → ahead q xs ≡ position_or_len q xs
-  ahead-place [] = refl
-  ahead-place (x ∷ xs) = go (q x) (ahead-place xs)
-    where
-      go : (b : Bool) → ahead q xs ≡ position_or_len q xs → elim b [ true ↦ 0 | false ↦ suc (ahead q xs) ] ≡ cond (not b) (1 + position_or_len q xs) 0
-      go true h = refl
-      go false h = omega (arith, h)
-
   pub place-some : (xs : List X) (k : ℕ) → k < length xs → k ≡ ahead q xs → Some k ≡ position q xs
   place-some xs k h e = ap (λ (n : ℕ). Some n) z ∙ sym (ap (λ (b : Bool). cond b (Some (position_or_len q xs)) None) (lt-ltb (position_or_len q xs) (length xs) (omega (arith, z, h))))
     where
       z : k ≡ position_or_len q xs
-      z = e ∙ ahead-place xs
+      z = e ∙ ahead-is q xs
 
   pub place-none : (xs : List X) → length xs ≡ ahead q xs → None ≡ position q xs
-  place-none xs e = sym (ap (λ (b : Bool). cond b (Some (position_or_len q xs)) None) (le-ltb (position_or_len q xs) (length xs) (omega (arith, e, ahead-place xs))))
+  place-none xs e = sym (ap (λ (b : Bool). cond b (Some (position_or_len q xs)) None) (le-ltb (position_or_len q xs) (length xs) (omega (arith, e, ahead-is q xs))))
 
 -- none of the first k passes
 abbrev pub Missed : (ℕ → Bool) → ℕ → Type 0
 Missed hit k = (j : ℕ) → j < k → hit j ≡ false
 
 module _ {X : Type 0} (q : X → Bool) (d : X) where
-  here : (x : X) (xs : List X) → q x ≡ true → ahead q (x ∷ xs) ≡ 0
-  here x xs e = ap (λ (b : Bool). elim b as (λ y. ℕ) [ true ↦ 0 | false ↦ suc (ahead q xs) ]) e
-
-  later : (x : X) (xs : List X) → q x ≡ false → ahead q (x ∷ xs) ≡ suc (ahead q xs)
-  later x xs e = ap (λ (b : Bool). elim b as (λ y. ℕ) [ true ↦ 0 | false ↦ suc (ahead q xs) ]) e
-
   ahead-at : (xs : List X) (k : ℕ) → k < length xs → Missed (λ j. q (get_or xs j d)) k → q (get_or xs k d) ≡ true → k ≡ ahead q xs
   ahead-at [] k h m e = absurd (not-suc-le-zero h)
-  ahead-at (x ∷ xs) zero h m e = sym (here x xs e)
+  ahead-at (x ∷ xs) zero h m e = sym (ahead-zero q x xs e)
   ahead-at (x ∷ xs) (suc k) h m e =
-      ap suc (ahead-at xs k (le_of_suc-le-suc h) (λ j l. m (suc j) (omega arith)) e) ∙ sym (later x xs (m 0 (omega arith)))
+      ap suc (ahead-at xs k (le_of_suc-le-suc h) (λ j l. m (suc j) (omega arith)) e) ∙ sym (ahead-suc q x xs (m 0 (omega arith)))
 
   ahead_past : (xs : List X) → Missed (λ j. q (get_or xs j d)) (length xs) → length xs ≡ ahead q xs
   ahead_past [] m = refl
-  ahead_past (x ∷ xs) m = ap suc (ahead_past xs (λ j l. m (suc j) (omega arith))) ∙ sym (later x xs (m 0 (omega arith)))
+  ahead_past (x ∷ xs) m = ap suc (ahead_past xs (λ j l. m (suc j) (omega arith))) ∙ sym (ahead-suc q x xs (m 0 (omega arith)))
 
   -- hit j is the test of element j
   module _ (xs : List X) (hit : ℕ → Bool) (tests : (j : ℕ) → j < length xs → hit j ≡ q (get_or xs j d)) where

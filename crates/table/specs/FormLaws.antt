@@ -3,6 +3,7 @@ use Rattle.std.specs.Prelude.{◌≡◌, refl, Bool, true, false, cond, ◌&&◌
 use Rattle.std.proofs.Common.{sym, inl, inr, eqb→eq, eqb-true, eq-eqb}
 use Rattle.std.proofs.Math.Path.{subst}
 use Rattle.std.proofs.Math.Dec.{T}
+use Rattle.lists.specs.BoolLaws.{T-second}
 use Rattle.packed.specs.Below.Lists.{all, any, among}
 use Rattle.packed.specs.Below.ListLaws.{T-left, T-right, all_among}
 use Rattle.packed.specs.Below.Quoted.{bytes}
@@ -11,7 +12,6 @@ use Rattle.packed.specs.Below.Instructions.{Forms, operation}
 use Rattle.packed.specs.Below.Letters.{letter_code}
 use Rattle.packed.specs.Below.Program.{Instr, Op, Program, switch_at}
 use Rattle.packed.specs.Below.WellFormed.{form, listed}
-use Rattle.packed.proofs.Below.LayoutArgumentLaws.{T-or}
 use Rattle.table.specs.Denote.{letter_of, arg_of, kind, kind_of_form}
 use Rattle.table.specs.Good.{Formed}
 use Rattle.table.specs.LetterLaws.{every-letter}
@@ -80,7 +80,7 @@ module _ (p : Program) (c : List ℕ) where
         where
           same : (z : ℕ) (b : Bool) → T (eqb z z || b)
           same z b = rw (eq-eqb z z refl) tt
-      go false e k g = T-or (eqb (f x) (f y)) (among (f x) (map f xs)) (g k)
+      go false e k g = T-second (eqb (f x) (f y)) (among (f x) (map f xs)) (g k)
 
   module _ (r : Argument) where
     -- the case is one of those of the listed forms

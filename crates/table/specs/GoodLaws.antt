@@ -1,6 +1,7 @@
 -- From a table that is well formed (question 62) to what its readers' callers use.
 use Rattle.std.specs.Prelude.{◌≡◌, refl, Bool, true, false, cond, not, ◌&&◌, List, [], ◌∷◌, ℕ, zero, suc, ◌+◌, ◌-◌, ◌*◌, ◌/◌, ◌%◌, ◌≤◌, ◌<◌, T, leb, ltb, length, get_or, take, pos, negsuc}
 use Rattle.std.proofs.Common.{sym, ap, ◌∙◌, subst, arith, leb→le, ltb→lt, leb-false}
+use Rattle.lists.specs.BoolLaws.{T-second}
 use Rattle.packed.specs.Below.Lists.{total, all, filled, bytes_equal}
 use Rattle.packed.specs.Below.ListLaws.{T-left, T-right, all-at}
 use Rattle.packed.specs.Below.Characters.{known}
@@ -12,7 +13,7 @@ use Rattle.packed.specs.Below.Program.{Arg, Instr, Label as LabelOf, Switch as S
 use Rattle.packed.specs.Below.LanguageValues.{in_range}
 use Rattle.packed.specs.Below.Facts.{InstrFacts, LabelFacts}
 use Rattle.packed.specs.Below.WellFormed.{good_word, good_text, kept_text, kept_number, ranged, good_entry, good_switch}
-use Rattle.packed.proofs.Below.LayoutArgumentLaws.{T-or, operator-back, operator-range, index-most, text_ref-below}
+use Rattle.packed.proofs.Below.LayoutArgumentLaws.{operator-back, operator-range, index-most, text_ref-below}
 use Rattle.packed.specs.Below.LayoutBounds.{ProgramOk, EntryOk, Tabled}
 use Rattle.packed.proofs.Below.LayoutCellLaws.{each_in, each_within, each-most, get_d-each, length-tab, get_d-tab}
 use Rattle.packed.specs.Below.LayoutCells.{cell, uncode}
@@ -235,7 +236,7 @@ module _ (c : List ℕ) (good : T (good_table c)) where
         let z : cell t k ≡ 5 + 8 * text_ref p w = written_as ∙ ap (arg_cell p) (sym stands ∙ ap (arg_of t) e ∙ ap text f) in
         let g = T-left (good_text w) (kept_text p w) h in
         subst (GoodText c) (sym small.is)
-        (good_text-at v g (omega (arith, z, text_ref-below p w (T-or (not (filled w)) (good_text w && kept_text p w) h), ok.facts.texts_few)))
+        (good_text-at v g (omega (arith, z, text_ref-below p w (T-second (not (filled w)) (good_text w && kept_text p w) h), ok.facts.texts_few)))
 
     argument-good : GoodArgument c a r
     argument-good = record {

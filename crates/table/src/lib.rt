@@ -1,4 +1,5 @@
-// Reading a program table, "a table of 8,192 numbers of 32 bits": the only code that reads its cells. docs/LAYOUT.md has their places.
+// Reading a program table, "a table of 8,192 numbers of 32 bits": with `writing` and `finding` the only code that reads its cells. docs/LAYOUT.md has
+// their places.
 #![tactic(auto)]
 
 ghost use Rattle.std.specs.Prelude.{◌≡◌, ◌+◌, ◌*◌, ◌%◌, ◌≤◌, ◌<◌, length, position, take, drop};
@@ -15,9 +16,9 @@ ghost use Rattle.packed.specs.Below.Limits as limit;
 ghost use Rattle.packed.specs.Below.LayoutPlaces.{instruction_count, label_count, switch_count, entry_count, text_count, number_count, first_instruction};
 
 use language::Operator;
+use layout::{ArgumentKind, TablePlaces};
 use packed::from_cells;
 use packed::from_language::Machine;
-use packed::from_layout::TablePlaces;
 
 #[derive(Clone, Copy, Debug, PartialEq, Eq)]
 pub enum Letter {
@@ -119,7 +120,7 @@ impl Letter {
 }
 
 // The letter at a place, and A past the twelve.
-pub fn letter_by(n: u32) -> Letter
+fn letter_by(n: u32) -> Letter
     ensures { letter_of result ≡ letter_at n }
 {
     Letter::try_from(n as usize).unwrap_or(Letter::A)
@@ -200,14 +201,14 @@ impl<'a> Table<'a> {
     {
         let x = self.cell(k);
         let v = x / 8;
-        match x % 8 {
-            1 => Argument::Indexed(letter_by(v / 64), (v % 64) as usize),
-            2 => Argument::Label(v as usize),
-            3 => Argument::Switch(v as usize),
-            4 => Argument::Class((v % 16) as u8),
-            5 => Argument::Text(text_ref(v)),
-            6 => Argument::Number(self.number_by(v)),
-            _ => Argument::Nothing,
+        match ArgumentKind::try_from((x % 8) as usize) {
+            Ok(ArgumentKind::Letter) => Argument::Indexed(letter_by(v / 64), (v % 64) as usize),
+            Ok(ArgumentKind::Label) => Argument::Label(v as usize),
+            Ok(ArgumentKind::Switch) => Argument::Switch(v as usize),
+            Ok(ArgumentKind::Class) => Argument::Class((v % 16) as u8),
+            Ok(ArgumentKind::Text) => Argument::Text(text_ref(v)),
+            Ok(ArgumentKind::Number) => Argument::Number(self.number_by(v)),
+            Ok(ArgumentKind::Nothing) | Err(_) => Argument::Nothing,
         }
     }
 
@@ -294,6 +295,14 @@ impl<'a> Table<'a> {
         ensures { IsArgument (table_of self.entry.cells.now) (3 + (first_instruction + 4 * i)) result }
     {
         self.argument_at(3 + (TablePlaces::FIRST_INSTRUCTION + 4 * i))
+    }
+
+    // The cell of argument `j` of instruction `i`.
+    pub fn argument_cell(self, i: usize, j: usize) -> usize
+        requires { (i < 512) × (j < 3) }
+        ensures { Number (cell (table_of self.entry.cells.now) (1 + j + (first_instruction + 4 * i))) 4294967296 result }
+    {
+        self.read(1 + j + (TablePlaces::FIRST_INSTRUCTION + 4 * i))
     }
 
     // Instruction `i`, its operator and its arguments.
@@ -393,7 +402,7 @@ impl<'a> Table<'a> {
         self.read(TablePlaces::FIRST_ENTRY + e) % 128
     }
 
-    pub fn entry_text(self, e: usize) -> TextRef
+    fn entry_text(self, e: usize) -> TextRef
         requires { e < 128 }
         ensures { RefersTo (entry_ref (table_of self.entry.cells.now) e) 33554432 result }
     {

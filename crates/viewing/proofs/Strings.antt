@@ -1,10 +1,11 @@
 -- Where a string lies in a state at rest.
 use mathlib.Core.Path.{◌≡◌, refl, sym, ap, ◌∙◌}
 use mathlib.Core.List.{List, [], ◌∷◌}
-use Prim.Native.Nat.{ℕ, zero, suc, ◌+◌, ◌-◌, ◌*◌, ◌≤◌, ◌<◌}
+use Prim.Native.Nat.{ℕ, ◌+◌, ◌-◌, ◌*◌, ◌≤◌, ◌<◌}
 use native.Mathlib.Omega.{arith}
 use lib.ListN.{length, take, drop, get_or}
 use lib.Seq.{get_or-drop, drop-drop}
+use Rattle.std.proofs.lemmas.List.{drop-take}
 use Rattle.language.specs.Limits as limit
 use Rattle.layout.proofs.CellLaws.{each_at}
 use Rattle.layout.specs.Cells.{two_at, three_at}
@@ -17,7 +18,6 @@ use Rattle.cells.specs.Cells.{Number}
 use Rattle.gaps.specs.Pool.{string, offset}
 use Rattle.gaps.proofs.Index.{offset-zero, offset-next, offset-within}
 use Rattle.packing.proofs.Reading.{packed-long, length-read, string-read}
-use Rattle.resting.specs.Resting.{Openable}
 use Rattle.resting.proofs.Laws.{scalars-are, unpackable}
 use Rattle.viewing.specs.Viewing.{Rests, Stringed, Shows}
 
@@ -61,30 +61,18 @@ module _ {m : List ℕ} {i from j n : ℕ} (pre : Stringed m i) (u : Passing m i
 
 -- ---- the state
 
-none : (k : ℕ) → take {A = ℕ} k [] ≡ []
-none zero = refl
-none (suc k) = refl
-
-take-drop : (n k : ℕ) (l : List ℕ) → take k (drop n l) ≡ drop n (take (n + k) l)
-take-drop zero k l = let e : 0 + k ≡ k = omega arith in rw e refl
-take-drop (suc n) k [] = let e : suc n + k ≡ suc (n + k) = omega arith in rw e (none k)
-take-drop (suc n) k (x ∷ l) = let e : suc n + k ≡ suc (n + k) = omega arith in rw e (take-drop n k l)
-
 -- the fourth number of three cells
 threes-three : (m : List ℕ) → threes_in layout.scalars_count m ≡ three_at 0 m ∷ three_at 3 m ∷ three_at 6 m ∷ three_at 9 m ∷ threes_in 4 (drop 12 m)
 unfolding threes_in
 threes-three m = simp (get_or-drop, drop-drop) refl
 
 module _ {m : List ℕ} (pre : Rests m) where
-  open-state : Openable m
-  open-state = record { long = pre.long; cells = pre.cells; fine = pre.fine }
-
-  pub outputs-lie : {l : List ℕ} → l ≡ take layout.strings_bytes (drop layout.first_length m) → Stringed l layout.first_output
-  outputs-lie q = record { packed = unpackable open-state q; below = omega arith }
+  pub outputs-lie : {l : List ℕ} {i : ℕ} → l ≡ take layout.strings_bytes (drop layout.first_length m) → i < layout.strings_count → Stringed l i
+  outputs-lie q h = record { packed = unpackable pre q; below = h }
 
   -- the part behind the scalars
   behind : take layout.strings_bytes (drop layout.first_length m) ≡ drop layout.first_length (state_cells (state_of m))
-  behind = take-drop layout.first_length layout.strings_bytes m ∙ ap (drop layout.first_length) (sym pre.cells)
+  behind = sym (drop-take layout.first_length layout.strings_bytes m) ∙ ap (drop layout.first_length) (sym pre.cells)
 
   pub output-shown : {l r : List ℕ} → l ≡ take layout.strings_bytes (drop layout.first_length m) → r ≡ string layout.first_output (strings_in l) → Shows m r
   output-shown {l} {r} q e =
@@ -96,5 +84,5 @@ module _ {m : List ℕ} (pre : Rests m) where
   pub next-told : {r : ℕ} → Number (three_at 9 m) 16777216 r → Number (state_of m).next 16777216 r
   unfolding threes_in
   next-told h =
-      let e : three_at 9 m ≡ (state_of m).next = sym (ap (λ (l : List ℕ). get_or l 3 0) (threes-three m)) ∙ ap (λ (l : List ℕ). get_or l 3 0) (scalars-are open-state) in
+      let e : three_at 9 m ≡ (state_of m).next = sym (ap (λ (l : List ℕ). get_or l 3 0) (threes-three m)) ∙ ap (λ (l : List ℕ). get_or l 3 0) (scalars-are pre) in
       record { is = h.is ∙ e; most = h.most }

@@ -1,16 +1,14 @@
 -- What the functions ask of a state at rest, and what they tell.
-use Rattle.std.specs.Prelude.{◌≡◌, List, [], ℕ, ◌≤◌, ◌<◌, length, get_or, take}
+use Rattle.std.specs.Prelude.{◌≡◌, List, [], ℕ, ◌≤◌, ◌<◌, length, get_or}
 use Rattle.language.specs.Limits as limit
-use Rattle.layout.specs.Bounds.{Fine}
-use Rattle.layout.specs.Memory.{state_cells, state_of}
+use Rattle.layout.specs.Memory.{state_of}
 use Rattle.layout.specs.Places as layout
 use Rattle.packing.specs.Packing.{Packed}
+use Rattle.resting.specs.Resting.{Openable}
 
 -- the memory m is that of a state
-pub record Rests (m : List ℕ) : Type 0 where
-  pub long : limit.state ≤ length m
-  pub cells : state_cells (state_of m) ≡ take limit.state m
-  pub fine : Fine (state_of m)
+abbrev pub Rests : List ℕ → Type 0
+Rests = Openable
 
 -- the cells m are those of 99 strings, and i is the place of one
 pub record Stringed (m : List ℕ) (i : ℕ) : Type 0 where

@@ -21,7 +21,7 @@ use Rattle.blocks.specs.Below.Lists.{any, ahead, each, bytes_equal}
 use Rattle.blocks.specs.Below.WellFormed.{kept_text}
 use Rattle.writing.specs.Writing.{Short, kept_arg, KeptInstr, KeptEntry, Tabular, with_label, with_instr}
 use Rattle.writing.proofs.Parts.{padded-more, laid, in_code, in-labels}
-use Rattle.writing.proofs.Growing.{each_snoc, each_over, one_more, code_part, labels_part, texts_part, switches_part, entries_part, numbers_part, parts, label-long, code-long, labels-long, sizes}
+use Rattle.writing.proofs.Growing.{each_snoc, each_map, one_more, code_part, labels_part, texts_part, switches_part, entries_part, numbers_part, parts, label-long, code-long, labels-long, sizes}
 
 -- ---- two programs with the same texts and numbers
 
@@ -106,8 +106,8 @@ module _ (l : Label) (p : Program) (h : Tabular p) (room : length p.labels < 128
         entries_most = h.entries_most;
         texts_most = h.texts_most;
         numbers_most = h.numbers_most;
-        code_kept = each_over (KeptInstr p) (KeptInstr (with_label l p)) (instr-again p (with_label l p) refl refl) p.code h.code_kept;
-        entries_kept = each_over (KeptEntry p) (KeptEntry (with_label l p)) (entry-again p (with_label l p) refl refl) (all_entries p) h.entries_kept;
+        code_kept = each_map (KeptInstr p) (KeptInstr (with_label l p)) (instr-again p (with_label l p) refl refl) p.code h.code_kept;
+        entries_kept = each_map (KeptEntry p) (KeptEntry (with_label l p)) (entry-again p (with_label l p) refl refl) (all_entries p) h.entries_kept;
         names_short = each_append (λ x. Short x.name) p.labels (l ∷ []) h.names_short (s, tt);
         texts_short = h.texts_short;
         numbers_small = h.numbers_small;
@@ -143,8 +143,8 @@ module _ (i : Instr) (p : Program) (h : Tabular p) (room : length p.code < 512) 
         texts_most = h.texts_most;
         numbers_most = h.numbers_most;
         code_kept = each_append (KeptInstr (with_instr i p)) p.code (i ∷ [])
-            (each_over (KeptInstr p) (KeptInstr (with_instr i p)) (instr-again p (with_instr i p) refl refl) p.code h.code_kept) (instr-again p (with_instr i p) refl refl i k, tt);
-        entries_kept = each_over (KeptEntry p) (KeptEntry (with_instr i p)) (entry-again p (with_instr i p) refl refl) (all_entries p) h.entries_kept;
+            (each_map (KeptInstr p) (KeptInstr (with_instr i p)) (instr-again p (with_instr i p) refl refl) p.code h.code_kept) (instr-again p (with_instr i p) refl refl i k, tt);
+        entries_kept = each_map (KeptEntry p) (KeptEntry (with_instr i p)) (entry-again p (with_instr i p) refl refl) (all_entries p) h.entries_kept;
         names_short = h.names_short;
         texts_short = h.texts_short;
         numbers_small = h.numbers_small;

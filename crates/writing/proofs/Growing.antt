@@ -7,14 +7,16 @@ use native.Mathlib.Omega.{arith}
 use lib.Dec.{T, leb}
 use lib.ListN.{length, set, length-append, length-map}
 use lib.IntN.{ℤ, nat_abs}
+use Rattle.std.proofs.lemmas.List.{map_push}
+use Rattle.lists.specs.AppendLaws.{any_left}
 use Rattle.blocks.specs.Below.Cells.{pasted}
 use Rattle.blocks.specs.Below.Instructions.{operation}
 use Rattle.blocks.specs.Below.Limits as limit
-use Rattle.blocks.specs.Below.Program.{Arg, Instr, Label, Entry, Switch, Program}
+use Rattle.blocks.specs.Below.Program.{Arg, Instr, Entry, Program}
 use Rattle.blocks.specs.Below.Program.Arg.{nothing, letter, label, switch, class, text}
 use Rattle.blocks.specs.Below.LanguageValues.{same_number}
 use Rattle.blocks.specs.Below.LayoutBounds.{Each}
-use Rattle.blocks.proofs.Below.LayoutCellLaws.{each_append, length-each, length-padded, length-fours}
+use Rattle.blocks.proofs.Below.LayoutCellLaws.{each_append, length-each, length-padded}
 use Rattle.blocks.specs.Below.LayoutCells.{cell, code, padded}
 use Rattle.blocks.specs.Below.Table.{text_ref, number_ref, arg_cell, instr_cells, label_cells, text_cells, switch_cells, entry_cell, all_entries, counts, table_cells}
 use Rattle.blocks.specs.Below.LayoutPlaces as layout
@@ -22,6 +24,8 @@ use Rattle.blocks.specs.Below.Lists.{any, ahead, each, bytes_equal}
 use Rattle.blocks.specs.Below.WellFormed.{kept_text, kept_number}
 use Rattle.writing.specs.Writing.{Short, kept_arg, KeptInstr, KeptEntry, Tabular, with_text, with_number}
 use Rattle.writing.proofs.Parts.{padded-more, laid, Sizes, in_texts, in_numbers}
+pub use Rattle.layout.specs.EachLaws.{each_map}
+pub use Rattle.layout.proofs.TableLaws.{length-label_cells as label-long, length-text_cells as text-long, length-switch_cells as switches-long}
 
 -- ---- lists
 
@@ -36,22 +40,10 @@ module _ {X : Type 0} (q : X → Bool) where
       go true t k = refl
       go false t k = ap suc (k t)
 
-  pub any_left : (xs ys : List X) → T (any q xs) → T (any q (xs ++ ys))
-  any_left [] ys h = absurd h
-  any_left (x ∷ xs) ys h = go (q x) h (any_left xs ys)
-    where
-      go : (b : Bool) → T (b || any q xs) → (T (any q xs) → T (any q (xs ++ ys))) → T (b || any q (xs ++ ys))
-      go true t k = tt
-      go false t k = k t
-
 module _ {X Y : Type 0} where
   pub each_snoc : (f : X → List Y) (xs : List X) (y : X) → each f (xs ++ (y ∷ [])) ≡ each f xs ++ f y
   each_snoc f [] y = append-nil (f y)
   each_snoc f (x ∷ xs) y = ap (λ (l : List Y). f x ++ l) (each_snoc f xs y) ∙ sym (append_assoc (f x) (each f xs) (f y))
-
-  pub map_snoc : (f : X → Y) (xs : List X) (y : X) → map f (xs ++ (y ∷ [])) ≡ map f xs ++ (f y ∷ [])
-  map_snoc f [] y = refl
-  map_snoc f (x ∷ xs) y = ap (λ (l : List Y). f x ∷ l) (map_snoc f xs y)
 
   -- two functions that agree on all elements
   pub each_same : (P : X → Type 0) (f g : X → List Y) → ((x : X) → P x → f x ≡ g x) → (xs : List X) → Each P xs → each f xs ≡ each g xs
@@ -61,10 +53,6 @@ module _ {X Y : Type 0} where
   pub map_same : (P : X → Type 0) (f g : X → Y) → ((x : X) → P x → f x ≡ g x) → (xs : List X) → Each P xs → map f xs ≡ map g xs
   map_same P f g e [] h = refl
   map_same P f g e (x ∷ xs) h = let a = e x h.0 in let b = map_same P f g e xs h.1 in λ j. a j ∷ b j
-
-pub each_over : {X : Type 0} (P Q : X → Type 0) → ((x : X) → P x → Q x) → (xs : List X) → Each P xs → Each Q xs
-each_over P Q f [] h = tt
-each_over P Q f (x ∷ xs) h = (f x h.0, each_over P Q f xs h.1)
 
 pub one_more : {X : Type 0} (xs : List X) (y : X) → length (xs ++ (y ∷ [])) ≡ suc (length xs)
 one_more xs y = simp length-append (omega arith)
@@ -95,17 +83,6 @@ parts p = laid (counts p) (code_part p) (labels_part p) (texts_part p) (switches
 pub in_parts : (p : Program) → table_cells p ≡ parts p
 unfolding table_cells
 in_parts p = refl
-
-pub label-long : (l : Label) → length (label_cells l) ≡ 16
-label-long l = ap suc (length-fours 15 l.name)
-
-pub text-long : (t : List ℕ) → length (text_cells t) ≡ 16
-text-long t = ap suc (length-fours 15 t)
-
-pub switches-long : (n : ℕ) (ws : List Switch) → length (switch_cells n ws) ≡ length ws
-unfolding switch_cells
-switches-long n [] = refl
-switches-long n (w ∷ ws) = ap suc (switches-long (n + length w.entries) ws)
 
 module _ (p : Program) where
   pub code-long : length (each (instr_cells p) p.code) ≡ 4 * length p.code
@@ -211,8 +188,8 @@ module _ (w : List ℕ) (p : Program) where
           entries_most = h.entries_most;
           texts_most = omega (arith, one_more p.texts w);
           numbers_most = h.numbers_most;
-          code_kept = each_over (KeptInstr p) (KeptInstr (with_text w p)) (instr-kept p (with_text w p) more-texts same_numbers) p.code h.code_kept;
-          entries_kept = each_over (KeptEntry p) (KeptEntry (with_text w p)) (entry_kept p (with_text w p) more-texts same_numbers) (all_entries p) h.entries_kept;
+          code_kept = each_map (KeptInstr p) (KeptInstr (with_text w p)) (instr-kept p (with_text w p) more-texts same_numbers) p.code h.code_kept;
+          entries_kept = each_map (KeptEntry p) (KeptEntry (with_text w p)) (entry_kept p (with_text w p) more-texts same_numbers) (all_entries p) h.entries_kept;
           names_short = h.names_short;
           texts_short = each_append Short p.texts (w ∷ []) h.texts_short (s, tt);
           numbers_small = h.numbers_small;
@@ -242,7 +219,7 @@ module _ (z : ℤ) (p : Program) where
         let f : pasted (numbers_part p) n (code z ∷ []) ≡ numbers_part (with_number z p) =
         ap (λ (k : ℕ). pasted (numbers_part p) k (code z ∷ [])) (sym (length-map p.numbers code))
         ∙ padded-more 128 q (code z ∷ []) (omega (arith, length-map p.numbers code))
-        ∙ ap (padded 128) (sym (map_snoc code p.numbers z)) in
+        ∙ ap (padded 128) (sym (map_push code p.numbers z)) in
         let a : suc n ≡ length (p.numbers ++ (z ∷ [])) = sym (one_more p.numbers z) in
         let b = ap (padded 2048) (each_same (KeptInstr p) (instr_cells p) (instr_cells (with_number z p)) (instr-stays p (with_number z p) same_texts more_numbers) p.code h.code_kept) in
         let r = in_numbers (counts p) (code_part p) (labels_part p) (texts_part p) (switches_part p) (entries_part p) (numbers_part p) (sizes p h) (code z ∷ []) n
@@ -261,8 +238,8 @@ module _ (z : ℤ) (p : Program) where
           entries_most = h.entries_most;
           texts_most = h.texts_most;
           numbers_most = omega (arith, one_more p.numbers z);
-          code_kept = each_over (KeptInstr p) (KeptInstr (with_number z p)) (instr-kept p (with_number z p) same_texts more_numbers) p.code h.code_kept;
-          entries_kept = each_over (KeptEntry p) (KeptEntry (with_number z p)) (entry_kept p (with_number z p) same_texts more_numbers) (all_entries p) h.entries_kept;
+          code_kept = each_map (KeptInstr p) (KeptInstr (with_number z p)) (instr-kept p (with_number z p) same_texts more_numbers) p.code h.code_kept;
+          entries_kept = each_map (KeptEntry p) (KeptEntry (with_number z p)) (entry_kept p (with_number z p) same_texts more_numbers) (all_entries p) h.entries_kept;
           names_short = h.names_short;
           texts_short = h.texts_short;
           numbers_small = each_append (λ y. nat_abs y ≤ limit.size) p.numbers (z ∷ []) h.numbers_small (s, tt);

@@ -7,18 +7,20 @@ use native.Mathlib.Nat.{not-suc-le-zero, le_of_suc-le-suc}
 use native.Mathlib.Omega.{arith}
 use lib.Dec.{T, ltb}
 use lib.ListN.{length, get_or, set, replicate, length-map, length-set, get_or-append}
-use lib.Seq.{set-append_left, get_or-append-add}
+use lib.Seq.{set-append_left, get_or-append-add, map-set}
 use borrow.Author.Tests.{ltb-true, ltb-false}
+use Rattle.std.proofs.lemmas.List.{get_or-map}
+use Rattle.layout.specs.EachLaws.{each_set}
 use Rattle.blocks.specs.Below.Program.{Arg, Instr, Entry, Switch, Program, no_instr, no_entry}
 use Rattle.blocks.specs.Below.LayoutBounds.{Each}
-use Rattle.blocks.proofs.Below.LayoutCellLaws.{each_in, padded-at, get_d-map-at}
+use Rattle.blocks.proofs.Below.LayoutCellLaws.{each_in, padded-at}
 use Rattle.blocks.specs.Below.LayoutCells.{cell, padded}
 use Rattle.blocks.specs.Below.Table.{text_ref, arg_cell, instr_cells, switch_cell, switch_cells, entry_cell, all_entries, counts, table_cells}
 use Rattle.blocks.specs.Below.LayoutPlaces as layout
 use Rattle.blocks.specs.Below.Lists.{each}
 use Rattle.writing.specs.Writing.{kept_arg, KeptInstr, KeptEntry, Tabular, with_argument, put_argument, with_entry_label, relabelled, to_label}
 use Rattle.writing.proofs.Adding.{code_same, entries-same, instr-again, entry-again}
-use Rattle.writing.proofs.Growing.{each_over, code_part, labels_part, texts_part, switches_part, entries_part, numbers_part, parts, code-long, sizes}
+use Rattle.writing.proofs.Growing.{each_map, code_part, labels_part, texts_part, switches_part, entries_part, numbers_part, parts, code-long, sizes}
 use Rattle.writing.proofs.Parts.{padded-set, laid, entries_at, set_code, set-entries}
 use Rattle.writing.proofs.Switching.{entries_of}
 
@@ -30,11 +32,6 @@ module _ {X : Type 0} where
   set_append_right (x ∷ xs) ys n a =
       let z : suc (length xs) + n ≡ suc (length xs + n) = omega arith in
       rw z (ap (λ (l : List X). x ∷ l) (set_append_right xs ys n a))
-
-  each_set : (P : X → Type 0) (xs : List X) (k : ℕ) (y : X) → Each P xs → P y → Each P (set xs k y)
-  each_set P [] k y h p = tt
-  each_set P (x ∷ xs) zero y h p = (p, h.1)
-  each_set P (x ∷ xs) (suc k) y h p = (h.0, each_set P xs k y h.1 p)
 
 -- cell j of block k, of n cells each
 module _ {X : Type 0} (n : ℕ) (f : X → List ℕ) (long : (x : X) → length (f x) ≡ n) (d : X) where
@@ -91,10 +88,10 @@ module _ (k j : ℕ) (a : Arg) (p : Program) (h : Tabular p) (there : k < length
         entries_most = h.entries_most;
         texts_most = h.texts_most;
         numbers_most = h.numbers_most;
-        code_kept = each_over (KeptInstr p) (KeptInstr r) (instr-again p r refl refl) (set p.code k changed)
+        code_kept = each_map (KeptInstr p) (KeptInstr r) (instr-again p r refl refl) (set p.code k changed)
             (each_set (KeptInstr p) p.code k changed h.code_kept
             (argument-kept p (get_or p.code k no_instr) j a (each_in (KeptInstr p) p.code h.code_kept k no_instr there) t));
-        entries_kept = each_over (KeptEntry p) (KeptEntry r) (entry-again p r refl refl) (all_entries p) h.entries_kept;
+        entries_kept = each_map (KeptEntry p) (KeptEntry r) (entry-again p r refl refl) (all_entries p) h.entries_kept;
         names_short = h.names_short;
         texts_short = h.texts_short;
         numbers_small = h.numbers_small;
@@ -155,11 +152,6 @@ relabelled-entries k m (w ∷ ws) = go (ltb k (length w.entries)) refl (relabell
         ∙ rw (get_or-append-add es rest n no_entry) (set_append_right es rest n (to_label m (get_or rest n no_entry)))
         ∙ ap (λ (l : List Entry). es ++ l) r
 
-map-set-at : {X : Type 0} (f : X → ℕ) (xs : List X) (k : ℕ) (y : X) → set (map f xs) k (f y) ≡ map f (set xs k y)
-map-set-at f [] k y = refl
-map-set-at f (x ∷ xs) zero y = refl
-map-set-at f (x ∷ xs) (suc k) y = ap (λ (l : List ℕ). f x ∷ l) (map-set-at f xs k y)
-
 module _ (k m : ℕ) (p : Program) (h : Tabular p) (there : k < length (all_entries p)) where
   abbrev old : Entry
   old = get_or (all_entries p) k no_entry
@@ -176,7 +168,7 @@ module _ (k m : ℕ) (p : Program) (h : Tabular p) (there : k < length (all_entr
       padded-at (parts p) (map (entry_cell p) (all_entries p)) (numbers_part p ++ replicate 1752 0) layout.first_entry 128
       (entries_at (counts p) (code_part p) (labels_part p) (texts_part p) (switches_part p) (entries_part p) (numbers_part p) (sizes p h)) k
       (rw length-map there)
-      ∙ get_d-map-at (entry_cell p) (all_entries p) k no_entry 0 there
+      ∙ get_or-map (entry_cell p) (all_entries p) k no_entry 0 there
 
   -- the text's reference stands above the label
   pub old-ref : cell (parts p) (layout.first_entry + k) / 128 ≡ text_ref p old.text
@@ -191,7 +183,7 @@ module _ (k m : ℕ) (p : Program) (h : Tabular p) (there : k < length (all_entr
       let x : v ≡ entry_cell p (to_label m old) = ap (λ (i : ℕ). m + 128 * i) old-ref in
       let f : set (entries_part p) k v ≡ entries_part r =
       padded-set 128 q k v (rw length-map there)
-      ∙ ap (padded 128) (ap (set q k) x ∙ map-set-at (entry_cell p) (all_entries p) k (to_label m old)
+      ∙ ap (padded 128) (ap (set q k) x ∙ sym (map-set (entry_cell p) (all_entries p) k (to_label m old))
       ∙ ap (map (entry_cell p)) entries-now ∙ entries-same p r refl refl (all_entries r)) in
       let g = ap (padded 2048) (code_same p r refl refl p.code) in
       let s = ap (padded 32) (relabelled-cells 0 k m p.switches) in
@@ -213,9 +205,9 @@ module _ (k m : ℕ) (p : Program) (h : Tabular p) (there : k < length (all_entr
         entries_most = omega (arith, length-set (all_entries p) k (to_label m old), ap length entries-now, h.entries_most);
         texts_most = h.texts_most;
         numbers_most = h.numbers_most;
-        code_kept = each_over (KeptInstr p) (KeptInstr r) (instr-again p r refl refl) p.code h.code_kept;
+        code_kept = each_map (KeptInstr p) (KeptInstr r) (instr-again p r refl refl) p.code h.code_kept;
         entries_kept = subst (Each (KeptEntry r)) entries-now
-            (each_over (KeptEntry p) (KeptEntry r) (entry-again p r refl refl) (set (all_entries p) k (to_label m old))
+            (each_map (KeptEntry p) (KeptEntry r) (entry-again p r refl refl) (set (all_entries p) k (to_label m old))
             (each_set (KeptEntry p) (all_entries p) k (to_label m old) h.entries_kept (record { low = low; kept = old-kept.kept })));
         names_short = h.names_short;
         texts_short = h.texts_short;

@@ -1,6 +1,7 @@
 -- From single cells that were written to the program that is held: switches, entries, arguments and labels of entries.
-use mathlib.Core.Path.{◌≡◌, sym, ap, ◌∙◌}
-use mathlib.Core.Bool.{Bool, cond}
+use mathlib.Core.Path.{◌≡◌, refl, sym, ap, ◌∙◌}
+use mathlib.Core.Bool.{Bool, true, false, cond}
+use mir.Val.{bool_byte}
 use mathlib.Core.List.{List, [], ◌∷◌}
 use Prim.Native.Nat.{ℕ, suc, ◌+◌, ◌*◌, ◌-◌, ◌/◌, ◌≤◌, ◌<◌}
 use native.Mathlib.Numerals.{add-one}
@@ -36,7 +37,11 @@ module _ (c d : List ℕ) (at v : ℕ) (low : at < 8192) (wrote : d ≡ set c at
 
 -- ---- a switch
 
-pub switch-done : (c d e : List ℕ) (n m v : ℕ) (b : Bool) → 8192 ≤ length c → n ≡ cell (table_of c) 2 → n < 32 → m ≡ cell (table_of c) 3 → v ≡ cond b 1 0
+as_number : (b : Bool) → bool_byte b ≡ cond {A = ℕ} b 1 0
+as_number true = refl
+as_number false = refl
+
+pub switch-done : (c d e : List ℕ) (n m v : ℕ) (b : Bool) → 8192 ≤ length c → n ≡ cell (table_of c) 2 → n < 32 → m ≡ cell (table_of c) 3 → v ≡ bool_byte b
     → d ≡ set c (layout.first_switch + n) (v + 512 * m) → e ≡ set d 2 (n + 1) → Changes (with_switch b) c e
 switch-done c d e n m v b long is room has bit f g =
     let s : List ℕ = (v + 512 * m) ∷ [] in
@@ -45,7 +50,7 @@ switch-done c d e n m v b long is room has bit f g =
       holds = λ p h. let x : n ≡ length p.switches = is ∙ switch_count c p h in
           let y : m ≡ length (all_entries p) = has ∙ entry_count c p h in
           both_hold c d e s (layout.first_switch + n) 2 (n + 1) long (omega arith) (omega arith) k g p (with_switch b p) h
-          (rw (add-one n, x, y, bit) (switch-added b p h.tabular (omega (arith, x)))) (switch-tabular b p h.tabular (omega (arith, x)));
+          (rw (add-one n, x, y, bit ∙ as_number b) (switch-added b p h.tabular (omega (arith, x)))) (switch-tabular b p h.tabular (omega (arith, x)));
       beyond = both-beyond c d e s (layout.first_switch + n) 2 (n + 1) long (omega arith) (omega arith) k g;
     }
 

@@ -1,37 +1,16 @@
--- Switches as they are written: entries one after the other into the last, and labels put in later. A list of switches is known by its kinds, its
--- sizes and all entries in a row.
+-- Switches as they are written, and labels put in later. A list of switches is known by its kinds, its sizes and all entries in a row.
 use mathlib.Core.Path.{◌≡◌, refl, sym, ap, ◌∙◌}
 use mathlib.Core.Bool.{Bool, true, false, cond}
-use mathlib.Core.List.{List, [], ◌∷◌, ◌++◌, map, append_assoc, append-nil}
+use mathlib.Core.List.{List, [], ◌∷◌, map}
 use Prim.Native.Nat.{ℕ, ◌-◌}
 use native.Mathlib.Omega.{arith}
 use lib.Dec.{ltb}
 use lib.ListN.{length, get_or, set, take, drop, length-set}
 use lib.Seq.{take_at, drop_at}
-use Rattle.blocks.specs.Below.Program.{Entry, Switch, Program, no_entry}
+use Rattle.blocks.specs.Below.Program.{Switch, no_entry}
 use Rattle.blocks.specs.Below.Lists.{each, head_or}
-use Rattle.writing.specs.Writing.{with_switches, with_entry, and_entry, to_label, relabelled}
-use Rattle.writing.proofs.Switching.{entries_of, on_last-snoc}
-
--- ---- entries of the last switch
-
-abbrev pub entries_added : List Entry → Program → Program
-entries_added [] p = p
-entries_added (e ∷ es) p = entries_added es (with_entry e p)
-
-entry-on : (e : Entry) (p : Program) (ws : List Switch) (b : Bool) (es : List Entry)
-    → with_entry e (with_switches (ws ++ (record { goes_by_name = b; entries = es } ∷ [])) p) ≡ with_switches (ws ++ (record { goes_by_name = b; entries = es ++ (e ∷ []) } ∷ [])) p
-unfolding with_entry
-entry-on e p ws b es = ap (λ (l : List Switch). with_switches l p) (on_last-snoc (and_entry e) ws (record { goes_by_name = b; entries = es }))
-
-entries-on : (fs : List Entry) (p : Program) (ws : List Switch) (b : Bool) (es : List Entry)
-    → entries_added fs (with_switches (ws ++ (record { goes_by_name = b; entries = es } ∷ [])) p) ≡ with_switches (ws ++ (record { goes_by_name = b; entries = es ++ fs } ∷ [])) p
-entries-on [] p ws b es =
-    ap (λ (l : List Entry). with_switches (ws ++ (record { goes_by_name = b; entries = l } ∷ [])) p) (sym (append-nil es))
-entries-on (f ∷ fs) p ws b es =
-    ap (entries_added fs) (entry-on f p ws b es)
-    ∙ entries-on fs p ws b (es ++ (f ∷ []))
-    ∙ ap (λ (l : List Entry). with_switches (ws ++ (record { goes_by_name = b; entries = l } ∷ [])) p) (append_assoc es (f ∷ []) fs)
+use Rattle.writing.specs.Writing.{to_label, relabelled}
+use Rattle.writing.proofs.Switching.{entries_of}
 
 -- ---- kinds and sizes
 

@@ -5,6 +5,7 @@ use mathlib.Core.List.{List, [], ◌∷◌, ◌++◌, map, append_assoc, append-
 use Prim.Native.Nat.{ℕ, zero, suc, ◌+◌, ◌*◌, ◌<◌}
 use native.Mathlib.Omega.{arith}
 use lib.ListN.{length, set, replicate, length-append, length-map, length-set}
+use Rattle.std.proofs.lemmas.List.{map_push}
 use Rattle.blocks.specs.Below.Cells.{pasted}
 use Rattle.blocks.specs.Below.Program.{Entry, Switch, Program}
 use Rattle.blocks.specs.Below.LayoutBounds.{Each}
@@ -15,7 +16,7 @@ use Rattle.blocks.specs.Below.LayoutPlaces as layout
 use Rattle.blocks.specs.Below.Lists.{each}
 use Rattle.writing.specs.Writing.{KeptInstr, KeptEntry, Tabular, with_switch, with_entry, and_entry, on_last}
 use Rattle.writing.proofs.Adding.{code_same, entries-same, instr-again, entry-again}
-use Rattle.writing.proofs.Growing.{each_snoc, map_snoc, each_over, one_more, code_part, labels_part, texts_part, switches_part, entries_part, numbers_part, parts, switches-long, sizes}
+use Rattle.writing.proofs.Growing.{each_snoc, each_map, one_more, code_part, labels_part, texts_part, switches_part, entries_part, numbers_part, parts, switches-long, sizes}
 use Rattle.writing.proofs.Parts.{padded-more, padded-one, padded-set, laid, Sizes, in-switches, switches-at, set-switches, set-entries}
 
 -- ---- a switch
@@ -68,9 +69,9 @@ module _ (b : Bool) (p : Program) (h : Tabular p) (room : length p.switches < 32
         entries_most = omega (arith, ap length same_entries, h.entries_most);
         texts_most = h.texts_most;
         numbers_most = h.numbers_most;
-        code_kept = each_over (KeptInstr p) (KeptInstr (with_switch b p)) (instr-again p (with_switch b p) refl refl) p.code h.code_kept;
+        code_kept = each_map (KeptInstr p) (KeptInstr (with_switch b p)) (instr-again p (with_switch b p) refl refl) p.code h.code_kept;
         entries_kept = subst (Each (KeptEntry (with_switch b p))) same_entries
-            (each_over (KeptEntry p) (KeptEntry (with_switch b p)) (entry-again p (with_switch b p) refl refl) (all_entries p) h.entries_kept);
+            (each_map (KeptEntry p) (KeptEntry (with_switch b p)) (entry-again p (with_switch b p) refl refl) (all_entries p) h.entries_kept);
         names_short = h.names_short;
         texts_short = h.texts_short;
         numbers_small = h.numbers_small;
@@ -137,7 +138,7 @@ module _ (e : Entry) (p : Program) (h : Tabular p) (room : length (all_entries p
       let f : set (entries_part p) n (entry_cell p e) ≡ entries_part (with_entry e p) =
       ap (λ (i : ℕ). set (entries_part p) i (entry_cell p e)) (sym (length-map (all_entries p) (entry_cell p)))
       ∙ padded-one 128 es (entry_cell p e) (omega (arith, length-map (all_entries p) (entry_cell p)))
-      ∙ ap (padded 128) (sym (map_snoc (entry_cell p) (all_entries p) e) ∙ ap (map (entry_cell p)) more-entries ∙ entries-same p (with_entry e p) refl refl (all_entries (with_entry e p))) in
+      ∙ ap (padded 128) (sym (map_push (entry_cell p) (all_entries p) e) ∙ ap (map (entry_cell p)) more-entries ∙ entries-same p (with_entry e p) refl refl (all_entries (with_entry e p))) in
       let s : set (switches_part p) k y ≡ switches_part (with_entry e p) =
       padded-set 32 ws k y (omega (arith, last, switches-long 0 p.switches))
       ∙ ap (λ (x : ℕ). padded 32 (set ws k (x + 2))) (last_cell p h k last) ∙ ap (padded 32) (switch-last e 0 k p.switches last) in
@@ -163,10 +164,10 @@ module _ (e : Entry) (p : Program) (h : Tabular p) (room : length (all_entries p
         entries_most = omega (arith, more-count);
         texts_most = h.texts_most;
         numbers_most = h.numbers_most;
-        code_kept = each_over (KeptInstr p) (KeptInstr (with_entry e p)) (instr-again p (with_entry e p) refl refl) p.code h.code_kept;
+        code_kept = each_map (KeptInstr p) (KeptInstr (with_entry e p)) (instr-again p (with_entry e p) refl refl) p.code h.code_kept;
         entries_kept = subst (Each (KeptEntry (with_entry e p))) more-entries
             (each_append (KeptEntry (with_entry e p)) (all_entries p) (e ∷ [])
-            (each_over (KeptEntry p) (KeptEntry (with_entry e p)) (entry-again p (with_entry e p) refl refl) (all_entries p) h.entries_kept)
+            (each_map (KeptEntry p) (KeptEntry (with_entry e p)) (entry-again p (with_entry e p) refl refl) (all_entries p) h.entries_kept)
             (entry-again p (with_entry e p) refl refl e t, tt));
         names_short = h.names_short;
         texts_short = h.texts_short;

@@ -1,4 +1,5 @@
 -- `control::call_to` meets its contract.
+use mathlib.Core.Path.{refl}
 use native.Mathlib.Omega.{arith}
 use Rattle.state.proofs.Standing.{held, stands, becomes}
 use Rattle.control.proofs.Laws.{entry-is, return-pushable, called}
@@ -10,9 +11,9 @@ push_front-requires c = return-pushable (held c.state.invariant c.state.view_is)
 pub invariant_of-state : goal.invariant_of-state
 invariant_of-state c =
     let h = held c.state.invariant c.state.view_is in
-    stands (called h c.requires (entry-is h c.requires c.read-n.ensures.is c.to_le_bytes-entry.ensures) c.push_front.ensures c.write.ensures)
+    stands (called h c.requires (entry-is h c.requires refl c.to_le_bytes-entry.ensures) c.push_front.ensures refl)
 
 pub returns : goal.returns
 returns c =
     let h = held c.state.invariant c.state.view_is in
-    becomes (called h c.requires (entry-is h c.requires c.read-n.ensures.is c.to_le_bytes-entry.ensures) c.push_front.ensures c.write.ensures)
+    becomes (called h c.requires (entry-is h c.requires refl c.to_le_bytes-entry.ensures) c.push_front.ensures refl)

@@ -1,7 +1,5 @@
 -- `control::go_back` meets its contract.
-use native.Mathlib.Omega.{arith}
-use mathlib.Core.Path.{◌≡◌, ◌∙◌}
-use Rattle.layout.specs.Cells.{two_at}
+use mathlib.Core.Path.{◌∙◌, refl}
 use Rattle.state.proofs.Standing.{held, stands, becomes}
 use Rattle.control.proofs.Laws.{top_within, top_read, returned}
 use Rattle.control.proofs.go_back.Goals as goal
@@ -12,11 +10,9 @@ part_of-e-requires c = top_within (held c.state.invariant c.state.view_is) c.req
 pub invariant_of-state : goal.invariant_of-state
 invariant_of-state c =
     let h = held c.state.invariant c.state.view_is in
-    let t : c.from-t.result ≡ two_at 0 c.part_of-e.result.now = omega (arith, c.from-t.ensures, c.from_le_bytes.ensures) in
-    stands (returned h c.requires (t ∙ top_read h c.requires c.part_of-e.ensures.is) c.drop_front.ensures c.write.ensures)
+    stands (returned h c.requires (c.two_at-t.ensures.is ∙ top_read h c.requires c.part_of-e.ensures.is) c.drop_front.ensures refl)
 
 pub returns : goal.returns
 returns c =
     let h = held c.state.invariant c.state.view_is in
-    let t : c.from-t.result ≡ two_at 0 c.part_of-e.result.now = omega (arith, c.from-t.ensures, c.from_le_bytes.ensures) in
-    becomes (returned h c.requires (t ∙ top_read h c.requires c.part_of-e.ensures.is) c.drop_front.ensures c.write.ensures)
+    becomes (returned h c.requires (c.two_at-t.ensures.is ∙ top_read h c.requires c.part_of-e.ensures.is) c.drop_front.ensures refl)

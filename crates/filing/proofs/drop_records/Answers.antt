@@ -1,4 +1,5 @@
 -- `filing::drop_records` meets its contract.
+use mathlib.Core.Path.{refl}
 use native.Mathlib.Omega.{arith}
 use Rattle.state.proofs.Standing.{held, stands, becomes}
 use Rattle.filing.proofs.Removed.{records-droppable, records-lowerable, records-fewer, records-dropped}
@@ -10,13 +11,13 @@ drop_front-requires c = records-droppable (held c.state.invariant c.state.view_i
 pub lower-requires : goal.lower-requires
 lower-requires c = records-lowerable (held c.state.invariant c.state.view_is) c.requires
 
-pub overflow_sub-n : goal.overflow_sub-n
-overflow_sub-n c = omega (arith, c.read-n.ensures, records-fewer (held c.state.invariant c.state.view_is) c.requires c.lower.ensures)
+pub overflow_sub-state : goal.overflow_sub-state
+overflow_sub-state c = omega (arith, records-fewer (held c.state.invariant c.state.view_is) c.requires c.lower.ensures)
 
 pub invariant_of-state : goal.invariant_of-state
 invariant_of-state c =
-    stands (records-dropped (held c.state.invariant c.state.view_is) c.requires c.drop_front.ensures c.lower.ensures c.read-n.ensures.is c.write.ensures)
+    stands (records-dropped (held c.state.invariant c.state.view_is) c.requires c.drop_front.ensures c.lower.ensures refl refl)
 
 pub returns : goal.returns
 returns c =
-    becomes (records-dropped (held c.state.invariant c.state.view_is) c.requires c.drop_front.ensures c.lower.ensures c.read-n.ensures.is c.write.ensures)
+    becomes (records-dropped (held c.state.invariant c.state.view_is) c.requires c.drop_front.ensures c.lower.ensures refl refl)

@@ -5,9 +5,6 @@ use Rattle.gaps.proofs.gap_end.Goals as goal
 
 pub returns : goal.returns
 returns c =
-    let pre = c.requires in
-    let args = c.args in
-    record {
-      all = λ k h b. omega (arith, c.read.ensures, pre.ordered.order (2 * args.i) k (omega arith) b);
-      most = omega (arith, c.read.ensures, pre.ordered.last (2 * args.i) (omega arith));
-    }
+    let o = c.requires.ordered in
+    let i = 2 * c.args.i in
+    record { all = λ k h b. omega (arith, c.read.ensures, o.order i k (omega arith) b); most = omega (arith, c.read.ensures, o.last i (omega arith)) }

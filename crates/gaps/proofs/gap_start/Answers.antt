@@ -5,9 +5,6 @@ use Rattle.gaps.proofs.gap_start.Goals as goal
 
 pub returns : goal.returns
 returns c =
-    let pre = c.requires in
-    let args = c.args in
-    record {
-      all = λ k h. omega (arith, c.read.ensures, pre.ordered.order k (2 * args.i - 1) (omega arith) (omega arith));
-      most = omega (arith, c.read.ensures, pre.ordered.last (2 * args.i - 1) (omega arith));
-    }
+    let o = c.requires.ordered in
+    let i = 2 * c.args.i - 1 in
+    record { all = λ k h. omega (arith, c.read.ensures, o.order k i (omega arith) (omega arith)); most = omega (arith, c.read.ensures, o.last i (omega arith)) }

@@ -4,21 +4,15 @@ use Prim.Native.Nat.{◌+◌}
 use native.Mathlib.Omega.{arith}
 use borrow.Author.Tests.{eq-eqb, ne_eqb}
 use lib.ListN.{length}
-use Rattle.records.proofs.Cuts.{seeking-none, seeking-next, seeking-here, seeking-end, cut-whole}
-use Rattle.records.proofs.Steps.{left-all, left_place, left_within, left-end, left_next, ends_here, here, record-starts, record-cells, record-some}
+use Rattle.records.proofs.Cuts.{seeking-none, seeking-next, seeking-here, seeking-end}
+use Rattle.records.proofs.Steps.{left-all, left_place, left_within, left-end, left_next, ends_here, here}
 use Rattle.records.proofs.find.Goals as goal
 
 pub loop-r-init : goal.loop-r-init
-loop-r-init c = (0, left-all c.args.s.now, seeking-none c.args.address c.requires)
-
-pub split_record-requires : goal.split_record-requires
-split_record-requires c = let (at, l, g) = c.loop-r.invariant in cut-whole g.cut l
+loop-r-init c = (0, left-all c.requires, seeking-none c.args.address c.requires)
 
 pub overflow_add-k : goal.overflow_add-k
 overflow_add-k c = let (at, l, g) = c.loop-r.invariant in omega (arith, g.cut.small, g.cut.within)
-
-pub address_of-requires : goal.address_of-requires
-address_of-requires c = let f = c.in-Some.ensures in record-starts f
 
 pub overflow_sub-result : goal.overflow_sub-result
 overflow_sub-result c = let (at, l, g) = c.loop-r.invariant in left_within (left_next l c.in-Some.ensures)
@@ -28,9 +22,6 @@ returns-then-address_of-address c =
     let (at, l, g) = c.loop-r.invariant in
     let f = c.in-Some.ensures in
     rw (left_place (left_next l f)) (seeking-here g (ends_here l f) (eq-eqb _ _ (ap (λ r. r.addr) (sym (here l f)) ∙ sym c.address_of.ensures.is ∙ c.if-address_of-address.true)))
-
-pub loop-r-smaller : goal.loop-r-smaller
-loop-r-smaller c = let f = c.in-Some.ensures in omega (arith, record-cells f, record-some f)
 
 pub loop-r-preserved : goal.loop-r-preserved
 loop-r-preserved c =

@@ -3,7 +3,8 @@ use Prim.Native.Nat.{◌-◌}
 use native.Mathlib.Omega.{arith}
 use lib.ListN.{length}
 use borrow.Author.Tests.{true-eqb, false-eqb}
-use Rattle.records.proofs.Lasts.{last-at, last-some, no_last, tail_is, two-room}
+use Rattle.std.proofs.lemmas.List.{take_rest}
+use Rattle.records.proofs.Lasts.{last-at, last-some, no_last, two-room}
 use Rattle.records.proofs.last_address.Goals as goal
 
 pub returns-then-is_empty : goal.returns-then-is_empty
@@ -32,9 +33,9 @@ overflow_sub-n-3 c =
 pub address_of-requires : goal.address_of-requires
 address_of-requires c =
     let z = false-eqb (length c.args.s.now) 0 c.if-is_empty.ensures in
-    rw (tail_is (length c.args.s.now - 7 - c.two_at-k.result) c.args.s.now) (last-at c.requires (omega (arith, z)) c.two_at-k.ensures.is).starts
+    rw (take_rest c.args.s.now (length c.args.s.now - 7 - c.two_at-k.result)) (last-at c.requires (omega (arith, z)) c.two_at-k.ensures.is).starts
 
 pub returns : goal.returns
 returns c =
     let z = false-eqb (length c.args.s.now) 0 c.if-is_empty.ensures in
-    last-some c.requires (omega (arith, z)) c.two_at-k.ensures.is (rw (tail_is (length c.args.s.now - 7 - c.two_at-k.result) c.args.s.now) at c.address_of.ensures)
+    last-some c.requires (omega (arith, z)) c.two_at-k.ensures.is (rw (take_rest c.args.s.now (length c.args.s.now - 7 - c.two_at-k.result)) at c.address_of.ensures)

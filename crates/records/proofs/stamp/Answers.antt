@@ -2,8 +2,7 @@
 use Prim.Native.Nat.{◌+◌}
 use native.Mathlib.Omega.{arith}
 use lib.ListN.{length}
-use Rattle.records.proofs.Cuts.{cut-whole}
-use Rattle.records.proofs.Steps.{left-all, left_place, left_within, left-end, left_next, ends_here, record-cells, record-some}
+use Rattle.records.proofs.Steps.{left-all, left_place, left-end, left_next, ends_here}
 use Rattle.records.proofs.Stamps.{stamping-none, stamping-next, stamping-end}
 use Rattle.records.proofs.stamp.Goals as goal
 
@@ -14,13 +13,7 @@ pub overflow_add-next : goal.overflow_add-next
 overflow_add-next c = omega (arith, c.requires.given)
 
 pub loop-rest-init : goal.loop-rest-init
-loop-rest-init c = (0, left-all c.args.src.now, stamping-none c.requires c.put.ensures)
-
-pub split_record-requires : goal.split_record-requires
-split_record-requires c = let (at, l, g) = c.loop-rest.invariant in cut-whole g.cut l
-
-pub overflow_sub-src : goal.overflow_sub-src
-overflow_sub-src c = let (at, l, g) = c.loop-rest.invariant in left_within l
+loop-rest-init c = (0, left-all c.requires.whole, stamping-none c.requires c.put.ensures)
 
 pub put_three-requires : goal.put_three-requires
 put_three-requires c =
@@ -30,9 +23,6 @@ put_three-requires c =
 
 pub overflow_add-next-in-Some : goal.overflow_add-next-in-Some
 overflow_add-next-in-Some c = let (at, l, g) = c.loop-rest.invariant in omega (arith, g.count, g.cut.most, c.requires.given)
-
-pub loop-rest-smaller : goal.loop-rest-smaller
-loop-rest-smaller c = let f = c.in-Some.ensures in omega (arith, record-cells f, record-some f)
 
 pub loop-rest-preserved : goal.loop-rest-preserved
 loop-rest-preserved c =

@@ -5,8 +5,7 @@ use native.Mathlib.Omega.{arith}
 use lib.ListN.{length, take, drop}
 use Rattle.cells.specs.Cells.{pasted}
 use Rattle.cells.specs.Below.LayoutCells.{three}
-use Rattle.records.proofs.Cuts.{cut-whole}
-use Rattle.records.proofs.Steps.{left-all, left-end, left_next, ends_here, part-is, behind_long, record-cells, record-some}
+use Rattle.records.proofs.Steps.{left-all, left-end, left_next, ends_here, part-is, behind_long}
 use Rattle.records.proofs.Stamps.{turning-none, turning-next, turning-end}
 use Rattle.records.proofs.stamp_reversed.Goals as goal
 
@@ -14,10 +13,7 @@ pub overflow_add-address : goal.overflow_add-address
 overflow_add-address c = omega (arith, c.requires.given)
 
 pub loop-r-init : goal.loop-r-init
-loop-r-init c = (0, left-all c.args.src.now, turning-none c.requires)
-
-pub split_record-requires : goal.split_record-requires
-split_record-requires c = let (at, l, g) = c.loop-r.invariant in cut-whole g.cut l
+loop-r-init c = (0, left-all c.requires.whole, turning-none c.requires)
 
 pub put-requires : goal.put-requires
 put-requires c =
@@ -33,9 +29,6 @@ put_three-requires c =
 
 pub overflow_add-address-in-Some : goal.overflow_add-address-in-Some
 overflow_add-address-in-Some c = let (at, l, g) = c.loop-r.invariant in omega (arith, g.count, g.cut.most, c.requires.given)
-
-pub loop-r-smaller : goal.loop-r-smaller
-loop-r-smaller c = let f = c.in-Some.ensures in omega (arith, record-cells f, record-some f)
 
 pub loop-r-preserved : goal.loop-r-preserved
 loop-r-preserved c =

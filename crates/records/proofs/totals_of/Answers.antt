@@ -3,19 +3,12 @@ use Prim.Native.Nat.{◌+◌}
 use native.Mathlib.Omega.{arith}
 use lib.ListN.{length}
 use Rattle.cells.proofs.Below.ComponentLaws.{whole-components}
-use Rattle.records.proofs.Cuts.{cut-whole}
-use Rattle.records.proofs.Steps.{left-all, left-end, left_next, ends_here, contents-here, record-starts, record-cells, record-some}
+use Rattle.records.proofs.Steps.{left-all, left-end, left_next, ends_here, contents-here}
 use Rattle.records.proofs.Walking.{summing-none, summing-next, summing-end, all-taken}
 use Rattle.records.proofs.totals_of.Goals as goal
 
 pub loop-r-init : goal.loop-r-init
-loop-r-init c = (0, left-all c.args.s.now, summing-none c.requires)
-
-pub split_record-requires : goal.split_record-requires
-split_record-requires c = let (at, l, g) = c.loop-r.invariant in cut-whole g.cut l
-
-pub contents_of-requires : goal.contents_of-requires
-contents_of-requires c = let f = c.in-Some.ensures in record-starts f
+loop-r-init c = (0, left-all c.requires, summing-none c.requires)
 
 pub count-requires : goal.count-requires
 count-requires c = record { whole = whole-components c.contents_of.ensures.cells; fitting = tt }
@@ -29,9 +22,6 @@ pub overflow_add-chars : goal.overflow_add-chars
 overflow_add-chars c =
     let (at, l, g) = c.loop-r.invariant in
     omega (arith, g.chars_most, g.cut.within, all-taken (contents-here l c.in-Some.ensures c.contents_of.ensures) c.count.ensures)
-
-pub loop-r-smaller : goal.loop-r-smaller
-loop-r-smaller c = let f = c.in-Some.ensures in omega (arith, record-cells f, record-some f)
 
 pub loop-r-preserved : goal.loop-r-preserved
 loop-r-preserved c =

@@ -1,20 +1,7 @@
 -- `store::push_back` meets its contract.
-use mathlib.Core.Path.{ap}
-use Rattle.gaps.specs.Below.Strings.{used}
 use Rattle.gaps.specs.Gaps.{pushed_back}
 use Rattle.gaps.proofs.Laws.{after}
-use native.Mathlib.Omega.{arith}
 use Rattle.store.proofs.push_back.Goals as goal
 
-pub put_back-requires : goal.put_back-requires
-put_back-requires c =
-    let make-room = c.make_room in
-    let pre = c.requires in
-    record { fine = make-room.ensures.holds.fine; index = pre.index; gap = make-room.ensures.gap; total = omega (arith, pre.total, ap used make-room.ensures.holds.is) }
-
 pub returns : goal.returns
-returns c =
-    let make-room = c.make_room in
-    let args = c.args in
-    let put_back = c.put_back in
-    after make-room.ensures.holds (pushed_back args.i args.bytes.now) put_back.ensures
+returns c = after c.make_room.ensures.holds (pushed_back c.args.i c.args.bytes.now) c.put_back.ensures

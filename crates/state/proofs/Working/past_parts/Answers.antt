@@ -1,5 +1,4 @@
 -- `Working::past_parts` meets its contract.
-use Rattle.state.proofs.Standing.{stood}
 use Rattle.state.proofs.Autos.{left}
 use Rattle.state.proofs.Working.past_parts.Goals as goal
 
@@ -7,4 +6,4 @@ pub returns-then-source : goal.returns-then-source
 returns-then-source c = rw c.if-source.true c.drop_parts.ensures
 
 pub returns-else-source : goal.returns-else-source
-returns-else-source c = left c.args.source.i c.args.amount.parts c.if-source.false (stood c.self.invariant c.self.view_is)
+returns-else-source c = left c.args.source.i c.args.amount.parts c.if-source.false c.stands.ensures
