@@ -38,13 +38,10 @@ named-told h t w i = rw i.is at (rw (put_front h) at t)
 
 module _ {s : List ℕ} {x : ReadArgument} {c : List ℕ} (u : CellAsked s x c) where
   -- what is asked of the value, where it is known
-  drafted_as : {y : ReadArgument} → x ≡ y → Drafted u.drafts.chars y u.arg
-  drafted_as e = subst (λ z. Drafted u.drafts.chars z u.arg) e u.drafts.drafted
-
   pub text-asked : {q : Quoted} → x ≡ Text q → TextNamed s q c
   text-asked e = record { chars = u.drafts.chars; names = subst (Spells s u.drafts.chars) e u.drafts.spelt; short = u.drafts.short; held = u.held }
 
--- the same of any argument that it stands for
+-- and of any argument that it stands for
 meant : {s : List ℕ} {x y : ReadArgument} → x ≡ y → (a : Arg) (d : Drafts s x a) → Drafted d.chars y a
 meant e a d = subst (λ z. Drafted d.chars z a) e d.drafted
 

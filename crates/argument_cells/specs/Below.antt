@@ -4,7 +4,6 @@ pub use Rattle.entering.specs.Below.Finding
 pub use Rattle.entering.specs.Below.Head
 pub use Rattle.entering.specs.Below.HeadLaws
 pub use Rattle.entering.specs.Below.Heads
-pub use Rattle.entering.specs.Below.Quoted
 pub use Rattle.entering.specs.Below.ReadArgument
 pub use Rattle.entering.specs.Below.Value
 pub use Rattle.entering.specs.Below.Valued

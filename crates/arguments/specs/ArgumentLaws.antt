@@ -24,10 +24,11 @@ use Rattle.lexer.specs.Tokens.{ColonWithin, word_of, chars_of, item_of, colon_of
 use Rattle.lexer.proofs.Finding.{is_spelled, one_sort, word-chars, no-chars}
 use Rattle.lists.specs.Lists.{filled, keep}
 use Rattle.lists.specs.ListLaws.{T-left, T-right, T-both, all_head, all_tail, all_cons, all_keep}
-use Rattle.statements.specs.LowestLaws.{none_before, none-before-both, fault-first, fault-within}
+use Rattle.statements.specs.LowestLaws.{none-before-both, fault-first, fault-within}
 use Rattle.statements.specs.Faults.{Fault}
 use Rattle.std.specs.Prelude.{Option, None, Some, Ok, Err}
-use Rattle.statements.specs.PlaceLaws.{stands_from, all_from, statement-from, places-from}
+use Rattle.statements.specs.PlaceLaws.{statement-from, places-from}
+use Rattle.statements.specs.Places.{none_before, stands_from, all_from}
 use Rattle.statements.specs.StatementAt.{statement_at, stops, fault_of}
 use Rattle.statements.specs.StatementLaws.{at-stop, at_item}
 use Rattle.syntax.specs.ArgumentForms.{accepting, form_in, word_reads, Argument, alternatives, arguments_in, arguments, read_by, of_form, least}

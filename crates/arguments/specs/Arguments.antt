@@ -11,7 +11,6 @@ use Rattle.language.specs.Instructions.{operation}
 use Rattle.language.specs.Limits as limit
 use Rattle.language.specs.Program.{Op}
 use Rattle.lexer.specs.declared.Token.{Token}
-use Rattle.lexer.specs.Tokens.{Stands}
 use Rattle.lists.specs.Lists.{each}
 use Rattle.std.specs.Prelude.{Option, None, Some, Result, Ok, Err}
 use Rattle.statements.specs.StatementAt.{statement_at, fault_of}
@@ -81,12 +80,7 @@ pub record Refuses (s : List ℕ) (at number place i p : ℕ) (w : Verdict) (r :
   pub worst_is : r.worst ≡ worse w (worst (statement_at s i))
   pub ends : EndedBy s i r.next
 
--- the operator is the token t
-pub record Operates (s : List ℕ) (t : Token) : Type 0 where
-  pub stands : Stands s t
-  pub low : length s ≤ limit.text
-
--- 01 and 02; the values, where 02 has no fault; 14 to 16 with those of the items after the operator; and the end of the statement
+-- the operator is the token t: 01 and 02; the values, where 02 has no fault; 14 to 16 with those of the items after the operator; and the end of the statement
 pub record ReadsArguments (s : List ℕ) (t : Token) (number : ℕ) (w : Verdict) (r : Arguments) : Type 0 where
   pub counted : (o : Op) → (operation o).number ≡ number → r.over ≡ fault_of (places (drop (most o) (arguments_in (statement_at s t.next))))
   pub judged : InstrFault s t number r.fault

@@ -10,8 +10,8 @@ use Rattle.std.proofs.Math.Dec.{T}
 use Rattle.std.proofs.Math.ListN.{length, set}
 use Rattle.std.proofs.lemmas.List.{length-map}
 use Rattle.std.proofs.Math.Seq.{drop-append-add, drop-nil}
+use Rattle.lists.specs.BoolLaws.{T-second}
 use Rattle.statements.specs.Checks.{token_verdict}
-use Rattle.heads.proofs.Below.RowLaws.{or_right}
 use Rattle.forms.specs.declared.Live.{Live}
 use Rattle.forms.specs.Forms.{listed, set_at, most_of, least_of}
 use Rattle.forms.specs.Kinds.{item_kinds}
@@ -29,6 +29,7 @@ use Rattle.statements.specs.Faults.{Fault, Verdict, worse}
 use Rattle.std.specs.Prelude.{Option, None, Some}
 use Rattle.heads.specs.Heads.{following}
 use Rattle.statements.specs.PlaceLaws.{statement-from}
+use Rattle.statements.specs.Places.{InText}
 use Rattle.statements.specs.StatementAt.{statement_at, stops, fault_of}
 use Rattle.statements.specs.StatementLaws.{at-stop, at_item}
 use Rattle.syntax.specs.ArgumentForms.{word_reads, reads, Argument, alternatives, arguments_in, arguments, read_by, most}
@@ -36,7 +37,7 @@ use Rattle.syntax.specs.Items.{Item, is, places}
 use Rattle.syntax.specs.Items.Sort.{colon, text}
 use Rattle.arguments.specs.declared.Arguments.{Arguments}
 use Rattle.arguments.specs.declared.Value.{Value}
-use Rattle.arguments.specs.Arguments.{read_from, argument_faults, instr_after, missing_or, Refusable, Refuses, Operates, ReadsArguments}
+use Rattle.arguments.specs.Arguments.{read_from, argument_faults, instr_after, missing_or, Refusable, Refuses, ReadsArguments}
 use Rattle.arguments.specs.ArgumentLaws.{items-read, turned, items-end, argument_listed, judged-so}
 use Rattle.arguments.specs.CountLaws.{arguments-on}
 use Rattle.arguments.specs.LeftLaws.{ReadsLeft, Passing, passing-first, passing-on, passed-worst, passed-end, worst-then, end-then}
@@ -55,7 +56,7 @@ past : (k : ℕ) (o : Op) → T (none_past k o)
 past zero o = by-operator (none_past 0) tt o
 past (suc zero) o = by-operator (none_past 1) tt o
 past (suc (suc zero)) o = by-operator (none_past 2) tt o
-past (suc (suc (suc k))) o = or_right (ltb (suc (suc (suc k))) (most o)) (none_at (suc (suc (suc k))) o) (by-operator (none_at (suc (suc (suc k)))) tt o)
+past (suc (suc (suc k))) o = T-second (ltb (suc (suc (suc k))) (most o)) (none_at (suc (suc (suc k))) o) (by-operator (none_at (suc (suc (suc k)))) tt o)
 
 three-most : (o : Op) → most o ≤ 3
 three-most o = leb→le (most o) 3 (by-operator (λ x. leb (most x) 3) tt o)
@@ -121,7 +122,7 @@ pub record Gathering (s : List ℕ) (n number : ℕ) (begun : Verdict) (i : ℕ)
   pub orders : Ordered (statement_at s i) → Ordered (statement_at s n)
   pub before : (o : Op) → (operation o).number ≡ number → Before s n o i live place v
 
-pub gathering-first : {s : List ℕ} {t : Token} {number : ℕ} {w : Verdict} → Operates s t → {v : List Value} → v ≡ no_values → Gathering s t.next number w t.next Live.Both 0 v w
+pub gathering-first : {s : List ℕ} {t : Token} {number : ℕ} {w : Verdict} → InText s t → {v : List Value} → v ≡ no_values → Gathering s t.next number w t.next Live.Both 0 v w
 gathering-first {s} {t} {number} {w} g {v} e =
     record {
       passing = passing-first g.stands.most;
@@ -230,7 +231,7 @@ refusing e q l fault_is =
 
 -- ---- the answers
 
-module _ {s : List ℕ} {t : Token} {m : ℕ} {begun : Verdict} (g : Operates s t) {i : ℕ} {live : Live} {place : ℕ} {v : List Value} {low : Verdict} (l : Gathering s t.next m begun i live place v low) where
+module _ {s : List ℕ} {t : Token} {m : ℕ} {begun : Verdict} (g : InText s t) {i : ℕ} {live : Live} {place : ℕ} {v : List Value} {low : Verdict} (l : Gathering s t.next m begun i live place v low) where
   -- no item is left
   pub all_read : {u : Token} → NextToken s i u → stops u.sort ≡ true → {f : Fault} → f ≡ missing_or m t.at place None → {r : Option ℕ} → r ≡ following u
       → ReadsArguments s t m begun (record { over = None; fault = f; values = v; worst = low; next = r })

@@ -1,21 +1,22 @@
 -- The value of an argument, form by form.
-use Rattle.std.specs.Prelude.{◌≡◌, Bool, true, false, ◌&&◌, ℕ, ◌+◌, ◌*◌, ◌^◌, ◌≤◌, ◌<◌, eqb, is_some, length, drop, nat_abs}
+use Rattle.std.specs.Prelude.{◌≡◌, true, false, ◌&&◌, ℕ, ◌+◌, ◌*◌, ◌^◌, ◌≤◌, ◌<◌, eqb, is_some, length, drop, nat_abs}
 use Rattle.std.proofs.Math.Path.{refl, sym, ap}
 use Rattle.std.proofs.Common.{◌∙◌, true≢false, arith, leb→le}
 use Rattle.std.proofs.Math.Bool.{and-false}
 use mathlib.Core.List.{List, []}
 use Rattle.std.proofs.Math.Dec.{T}
 use borrow.Author.Tests.{eqb-false}
+use lib.Ieee.Bits.{is_true}
 use Rattle.heads.proofs.Below.AcceptanceArgumentLaws.{first_is, number-form}
 use Rattle.heads.proofs.Below.ReadingLaws.{Other, by_form, other-reads, text-reads, as-word}
 use Rattle.heads.specs.Below.Drafting.{draft_arg}
 use Rattle.forms.specs.KindLaws.{indexed-name, indexed-class, class-name, name-number}
 use Rattle.forms.proofs.Readings.{class-kind, letter-kind, name-kind, number-kind, no_kind}
 use Rattle.language.specs.Letters.{Letter, letter_code, use_of, indices}
+use Rattle.language.specs.Letters.Letter.{A}
 use Rattle.language.specs.Limits as limit
 use Rattle.language.specs.Program.{Arg, classes, identifier}
 use Rattle.language.specs.Values.{numeral, value_of, in_range, amount}
-use Rattle.layout.proofs.ArgumentLaws.{letter-back}
 use Rattle.layout.specs.Cells.{code}
 use Rattle.layout.specs.Table.{letter_place, class_mask}
 use Rattle.lexer.specs.declared.Token.{Token}
@@ -28,10 +29,10 @@ use Rattle.syntax.specs.Items.{Item, is, same_sort}
 use Rattle.syntax.specs.Items.Sort.{word, text}
 use Rattle.syntax.proofs.LetterLaws.{letter_of-code}
 use Rattle.table.specs.Denote as denote
-use Rattle.words.specs.declared.Lettered.{Lettered}
 use Rattle.words.specs.Words.{is_class, class_of, numeral_of, indexed_of}
 use Rattle.table.specs.declared.Letter.{Letter as Named}
-use Rattle.arguments.specs.Valued.{is_text, is_number, quoted_of, NamesText, Spells, Drafted, Stood, argument_of, argument_value, LetterValue, OwnValue, WordKind, Found, ItemKind}
+use Rattle.statements.specs.Places.{InText}
+use Rattle.arguments.specs.Valued.{is_text, is_number, quoted_of, NamesText, Spells, Drafted, Stood, argument_of, argument_value, LetterValue, OwnValue, WordKind, ItemKind}
 use Rattle.arguments.specs.declared.Kind.{Kind}
 use Rattle.arguments.specs.declared.ReadArgument.{ReadArgument}
 use Rattle.arguments.specs.declared.ReadArgument.TheVariants.{Nothing, Indexed, Label, Switch, Class, Number}
@@ -42,36 +43,32 @@ use Rattle.std.specs.Prelude.{Option, None, Some}
 
 -- ---- words
 
-holds : (b : Bool) → T b → b ≡ true
-holds true h = refl
-holds false h = absurd h
-
 module _ (w : List ℕ) where
   abbrev by_first : Letter
   by_first = letter_of (head_or 0 w)
 
-  abbrev lettered_by : ℕ → ℕ → Option Lettered
-  lettered_by k n = Some (record { place = k; index = n })
+  abbrev lettered_by : Letter → ℕ → Option (Letter × ℕ)
+  lettered_by l n = Some (l, n)
 
-  abbrev place_in : Option Lettered → ℕ
-  place_in None = 0
-  place_in (Some l) = l.place
+  abbrev letter_in : Option (Letter × ℕ) → Letter
+  letter_in None = A
+  letter_in (Some x) = x.0
 
-  abbrev index_in : Option Lettered → ℕ
+  abbrev index_in : Option (Letter × ℕ) → ℕ
   index_in None = 0
-  index_in (Some l) = l.index
+  index_in (Some x) = x.1
 
   number-code : T (numeral w && in_range (value_of w)) → numeral_of w ≡ Some (code (value_of w))
   unfolding numeral_of
-  number-code h = rw (holds (numeral w && in_range (value_of w)) h)
+  number-code h = rw (is_true (numeral w && in_range (value_of w)) h)
 
   class-is : T (is_class w) → class_of w ≡ class_mask (classes w)
   unfolding class_of
-  class-is h = rw (holds (is_class w) h)
+  class-is h = rw (is_true (is_class w) h)
 
-  letter_is : T (is_indexed w by_first) → indexed_of w ≡ lettered_by (letter_place by_first) (amount 0 (drop 1 w))
+  letter_is : T (is_indexed w by_first) → indexed_of w ≡ lettered_by by_first (amount 0 (drop 1 w))
   unfolding indexed_of
-  letter_is h = rw (holds (is_indexed w by_first) h)
+  letter_is h = rw (is_true (is_indexed w by_first) h)
 
   -- the own value of a word, by what it is
   abbrev bits : ℕ → Forms
@@ -93,17 +90,16 @@ module _ (w : List ℕ) where
             own_is = own_name (λ h. absurd (rw c at h)) (λ h. absurd (let f = letter_is h in let y : ◌≡◌ {A = ℕ} 0 1 = cc in omega arith));
           }
 
-      pub letter-read : {place n a b : ℕ} {f : Forms} → n < 256 → lettered_by place n ≡ indexed_of w → f.bits ≡ 229376 + 2 ^ place → b ≡ place → {l : Named} → denote.letter_of l ≡ denote.letter_at b
+      pub letter-read : {l : Named} {n a : ℕ} {f : Forms} → n < 256 → lettered_by (denote.letter_of l) n ≡ indexed_of w → f.bits ≡ 229376 + 2 ^ letter_place (denote.letter_of l)
           → a ≡ n → WordKind w (record { set = f; own = Indexed l a })
-      letter-read {place} {n} {a} low q i p {l} k u =
+      letter-read {l} {n} {a} low q i u =
           record {
-            set_is = i ∙ (letter-kind w e c q).1;
+            set_is = i ∙ letter-kind w e c q;
             own_is = own_name (λ h. absurd (rw c at h)) (λ h.
                 let f = letter_is h in
-                let same : lettered_by place n ≡ lettered_by (letter_place by_first) (amount 0 (drop 1 w)) = q ∙ f in
-                let r : place ≡ letter_place by_first = ap place_in same in
+                let same : lettered_by (denote.letter_of l) n ≡ lettered_by by_first (amount 0 (drop 1 w)) = q ∙ f in
                 let m : n ≡ amount 0 (drop 1 w) = ap index_in same in
-                record { letter = l; index = a; is = refl; letter_is = k ∙ ap denote.letter_at (p ∙ r) ∙ letter-back by_first; index_is = u ∙ m; small = omega (arith, u, low) });
+                record { letter = l; index = a; is = refl; letter_is = ap letter_in same; index_is = u ∙ m; small = omega (arith, u, low) });
           }
 
   module _ (e : identifier w ≡ false) where
@@ -125,7 +121,7 @@ empty-reads =
     by_form (λ f. T (word_reads [] f) → ⊥) (λ h. h) (λ h. h) (λ h. h) (λ h. h) (λ h. h) (λ h. h)
     (λ f o h. let r = other-reads [] f o h in T-right (eqb 0 (letter_code r.by)) (is_index (indices (use_of r.by).var) []) r.indexed)
 
-module _ {s : List ℕ} {t : Token} (a : Found s t) where
+module _ {s : List ℕ} {t : Token} (a : InText s t) where
   -- the mark of a token fits a number
   pub mark-low : (t.at ≤ 32768) × (t.len ≤ 32768)
   mark-low = (omega (arith, a.stands.own, a.stands.behind, a.stands.most, a.low), omega (arith, a.stands.own, a.stands.behind, a.stands.most, a.low))
@@ -206,7 +202,7 @@ module _ {s : List ℕ} {t : Token} (a : Found s t) where
         rw ((g.word_is (word-here 110 refl r)).number h) (record {
           entered = record {
             text_is = no-text-here 110 refl r;
-            number_is = ap (λ k. same_sort word (sort_in k) && numeral w) (is_word 110 refl r) ∙ ap numeral chars ∙ holds (numeral v) (T-left (numeral v) (in_range (value_of v)) h);
+            number_is = ap (λ k. same_sort word (sort_in k) && numeral w) (is_word 110 refl r) ∙ ap numeral chars ∙ is_true (numeral v) (T-left (numeral v) (in_range (value_of v)) h);
             spelt = record {
               is = ap (λ (u : List ℕ). code (value_of u)) (sym chars);
               small = rw chars (leb→le (nat_abs (value_of v)) limit.size (T-right (numeral v) (in_range (value_of v)) h));

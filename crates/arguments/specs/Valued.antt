@@ -9,10 +9,10 @@ use Rattle.language.specs.Values.{amount, numeral, value_of, in_range}
 use Rattle.layout.specs.Cells.{code}
 use Rattle.layout.specs.Table.{class_mask}
 use Rattle.lexer.specs.declared.Token.{Token}
-use Rattle.lexer.specs.Tokens.{item_of, word_of, Stands}
+use Rattle.lexer.specs.Tokens.{item_of, word_of}
 use Rattle.lists.specs.Lists.{head_or}
 use Rattle.spelling.specs.Spelling.{text_in, Between}
-use Rattle.statements.specs.PlaceLaws.{all_from}
+use Rattle.statements.specs.Places.{all_from}
 use Rattle.statements.specs.StatementAt.{statement_at}
 use Rattle.syntax.specs.ArgumentForms as syntax
 use Rattle.syntax.specs.ArgumentForms.{is_indexed, arguments}
@@ -129,10 +129,6 @@ pub record OwnValue (w : List ℕ) (x : ReadArgument) : Type 0 where
 pub record WordKind (w : List ℕ) (r : Kind) : Type 0 where
   pub set_is : r.set.bits ≡ word_kinds w
   pub own_is : OwnValue w r.own
-
-pub record Found (s : List ℕ) (t : Token) : Type 0 where
-  pub stands : Stands s t
-  pub low : length s ≤ limit.text
 
 pub record ItemKind (s : List ℕ) (t : Token) (r : Kind) : Type 0 where
   pub set_is : r.set.bits ≡ item_kinds (item_of s t)

@@ -6,16 +6,18 @@ ghost use Rattle.forms.specs.Letters.{letter};
 ghost use Rattle.language.specs.Instructions.{number_of};
 ghost use Rattle.language.specs.Operators.{op_by};
 ghost use Rattle.language.specs.Program.{identifier};
-ghost use Rattle.arguments.specs.Arguments.{with_excess, missing_or, Accepts, Refusable, Refuses, Operates, ReadsArguments};
-ghost use Rattle.arguments.specs.Valued.{no_value, argument_value, WordKind, Found, ItemKind};
+ghost use Rattle.statements.specs.Places.{InText};
+ghost use Rattle.arguments.specs.Arguments.{with_excess, missing_or, Accepts, Refusable, Refuses, ReadsArguments};
+ghost use Rattle.arguments.specs.Valued.{no_value, argument_value, WordKind, ItemKind};
 
+use drafts::mark;
 use forms::{Form, Forms, Live, Taken, least, most, take_argument};
 use heads::following;
 use language::Operator;
 use lexer::{Token, next_item};
 use scanner::Sort;
 use statements::{Fault, Verdict, lower, stops, worse};
-use table::{Letter, letter_by};
+use table::Letter;
 
 // A text: the place of its item and that of its closing apostrophe.
 #[derive(Clone, Copy, Debug, PartialEq, Eq)]
@@ -25,7 +27,8 @@ pub struct Quoted {
 }
 
 // An argument while a text is read. A label or a switch is the mark of its name, its place 64-fold and its length, as a draft's cells have it.
-#[derive(Clone, Copy)]
+// A type of its own beside `table::Argument`: a text is not yet one of the table, and a type with a parameter for it would stand in all that reads a table.
+#[derive(Clone, Copy, Debug, PartialEq, Eq)]
 pub enum ReadArgument {
     Nothing,
     Indexed(Letter, usize),
@@ -37,7 +40,7 @@ pub enum ReadArgument {
 }
 
 // An argument and the place of its item.
-#[derive(Clone, Copy)]
+#[derive(Clone, Copy, Debug, PartialEq, Eq)]
 pub struct Value {
     pub at: usize,
     pub argument: ReadArgument,
@@ -45,7 +48,7 @@ pub struct Value {
 
 // An instruction's three arguments, Nothing where there is none, and the lowest places at fault of questions 01 and 02. Where one of them has a fault, the
 // values may be any. Then questions 14 to 16 of its items, where the next statement begins, unless this is the last.
-#[derive(Clone, Copy)]
+#[derive(Clone, Copy, Debug, PartialEq, Eq)]
 pub struct Arguments {
     pub over: Fault,
     pub fault: Fault,
@@ -56,7 +59,7 @@ pub struct Arguments {
 
 // What an item reads as: the set of its forms; and its own value as a text, a number, a class or an indexed letter, otherwise Nothing.
 // No Option around `own`: ReadArgument has Nothing for none, and `value_by` hands `own` on as the argument.
-#[derive(Clone, Copy)]
+#[derive(Clone, Copy, Debug, PartialEq, Eq)]
 struct Kind {
     set: Forms,
     own: ReadArgument,
@@ -76,7 +79,7 @@ fn no_value() -> Value
 fn with_excess(over: Fault, more: bool, at: usize) -> Fault
     ensures { result ≡ with_excess over more at }
 {
-    if more { lower(over, Some(at)) } else { over }
+    lower(over, more.then_some(at))
 }
 
 // What a word reads as that is a name.
@@ -91,12 +94,9 @@ fn name_kind(w: &[u8]) -> Kind
         };
     }
     match words::indexed(w) {
-        Some(letter) => Kind {
-            set: Forms::letter(letter.place).named(),
-            own: ReadArgument::Indexed(
-                letter_by(u32::from(letter.place)),
-                usize::from(letter.index),
-            ),
+        Some(read) => Kind {
+            set: Forms::letter(read.letter).named(),
+            own: ReadArgument::Indexed(read.letter, usize::from(read.index)),
         },
         None => Kind {
             set: Forms::NAME,
@@ -126,7 +126,7 @@ fn word_kind(w: &[u8]) -> Kind
 
 // What an item reads as.
 fn item_kind(text: &[u8], t: Token) -> Kind
-    requires { Found text.now t }
+    requires { InText text.now t }
     ensures { ItemKind text.now t result }
 {
     if t.is(Sort::Text) {
@@ -152,10 +152,10 @@ fn value_by(t: Token, form: Form, own: ReadArgument) -> ReadArgument
     requires { (t.at ≤ 32768) × (t.len ≤ 32768) }
     ensures { result ≡ argument_value t (letter form) own }
 {
-    let mark = t.at * 64 + t.len;
+    let name = mark(t.at, t.len) as usize;
     match form {
-        Form::Label => ReadArgument::Label(mark),
-        Form::Nazwa | Form::Indeks => ReadArgument::Switch(mark),
+        Form::Label => ReadArgument::Label(name),
+        Form::Nazwa | Form::Indeks => ReadArgument::Switch(name),
         _ => own,
     }
 }
@@ -189,8 +189,9 @@ fn missing_or(op: u8, at: usize, count: usize, fault: Fault) -> Fault
 
 // Place `p` is at fault among the items from `n` on, which `place` arguments stand before; the operator stands at `at`. They are read to the end of the
 // statement: how many arguments they are, those in excess, and questions 14 to 16.
-// Seven parameters: a struct of them would be built for each of the three calls, and read once.
-// Here and in `read_arguments` each turn goes on behind the item that it read, so there is no range to run over.
+// Seven parameters: a struct of them would be built for the one call, and read once.
+// Here and in `read_arguments` each turn goes on behind the item that it read, so there is no range to run over; and no iterator over the items, which
+// would end without the token that ends the statement, and `next` is asked of that.
 fn refuse(
     text: &[u8],
     at: usize,
@@ -231,7 +232,7 @@ fn refuse(
 // The arguments of the instruction with the operator `operator`, which is the token `t`, and its questions 01 and 02; `worst` is that of the items up to the
 // operator.
 pub fn read_arguments(text: &[u8], t: Token, operator: Operator, worst: Verdict) -> Arguments
-    requires { Operates text.now t }
+    requires { InText text.now t }
     ensures { ReadsArguments text.now t (number_of (op_by operator)) worst result }
 {
     let op = u8::from(operator);

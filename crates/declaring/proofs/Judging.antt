@@ -7,10 +7,10 @@ use Rattle.std.specs.Bool.{then_some}
 use mathlib.Core.List.{List, [], ◌∷◌, ◌++◌, map}
 use Prim.Native.Nat.{ℕ, suc, ◌-◌, ◌≤◌, ◌<◌}
 use native.Mathlib.Omega.{arith}
-use lib.ListN.{length, take, drop, length-drop}
-use lib.Seq.{drop-nil, take_all}
+use lib.ListN.{length}
+use lib.Seq.{drop-nil}
 use Rattle.std.proofs.Math.ListN.{drop_of_length-le}
-use Rattle.std.proofs.lemmas.List.{drop-map}
+use Rattle.std.proofs.lemmas.List.{drop-map, take_rest}
 use Rattle.argument_cells.specs.Below.Valued.{Valued}
 use Rattle.argument_cells.specs.Below.Value.{Value}
 use Rattle.names.specs.Below.DraftsMarks.{place_by, marks_in}
@@ -33,12 +33,9 @@ use Rattle.declaring.specs.Declaring.{texts_excess, numbers_excess, LabelsTold, 
 
 -- ---- labels and instructions in excess
 
-take-rest : (m : ℕ) (xs : List ℕ) → take (length xs - m) (drop m xs) ≡ drop m xs
-take-rest m xs = take_all (length xs - m) (drop m xs) (omega (arith, length-drop m xs))
-
 pub labels-over : {c : List ℕ} (ms : List ℕ) (room : ℕ) {r : Fault} → ((p : Program) → HoldsProgram c p → room ≡ 128 - length p.labels)
     → r ≡ fault_of (map place_by (marks_in ms room (length ms))) → LabelsTold c ms r
-labels-over {c} ms room {r} e f p h = f ∙ rw (← e p h, drop-map place_by room, take-rest room ms)
+labels-over {c} ms room {r} e f p h = f ∙ rw (← e p h, drop-map place_by room, take_rest ms room)
 
 -- where there is room for all
 pub labels-within : {c : List ℕ} (ms : List ℕ) (room : ℕ) {r : Fault} → ((p : Program) → HoldsProgram c p → room ≡ 128 - length p.labels) → length ms ≤ room → r ≡ None → LabelsTold c ms r

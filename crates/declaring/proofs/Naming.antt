@@ -1,7 +1,7 @@
 -- Labels come to a program table mark by mark.
-use mathlib.Core.Path.{◌≡◌, refl, ap, ◌∙◌, subst}
+use mathlib.Core.Path.{◌≡◌, refl, ◌∙◌}
 use mathlib.Core.List.{List, map-append, append_assoc, append-nil}
-use Prim.Native.Nat.{ℕ, ◌+◌, ◌-◌, ◌/◌, ◌%◌, ◌≤◌, ◌<◌}
+use Prim.Native.Nat.{ℕ, ◌+◌, ◌/◌, ◌%◌, ◌≤◌, ◌<◌}
 use native.Mathlib.Omega.{arith}
 use native.Mathlib.Numerals.{add-one}
 use lib.ListN.{length, get_or, take, drop, length-append, length-map, length-take}
@@ -18,21 +18,9 @@ use Rattle.declaring.specs.Declaring.{with_labels, labels_by, Nameable, Labellin
 -- ---- one mark
 
 module _ {s : List ℕ} {m target : ℕ} {c : List ℕ} (h : Nameable s m target c) where
-  pub name-inside : m / 64 + m % 64 ≤ length s
-  name-inside = h.marked
-
-  pub name-is : take (m / 64 + m % 64 - m / 64) (drop (m / 64) s) ≡ word_by s m
+  pub name-room : {n : ℕ} → n ≡ length (word_by s m) → LabelRoom c n target
   unfolding word_by
-  name-is = let q : m / 64 + m % 64 - m / 64 ≡ m % 64 = omega arith in ap (λ (x : ℕ). take x (drop (m / 64) s)) q
-
-  pub name-room : {n : ℕ} → n ≡ length (take (m / 64 + m % 64 - m / 64) (drop (m / 64) s)) → LabelRoom c n target
-  unfolding word_by
-  name-room {n} q =
-      record { long = h.long; room = h.room; short = omega (arith, q, length-take (m / 64 + m % 64 - m / 64) (drop (m / 64) s), h.short); low = h.low }
-
-  pub name-put : {d : List ℕ} → Changes (with_label (label_of (take (m / 64 + m % 64 - m / 64) (drop (m / 64) s)) target)) c d
-      → Changes (with_label (label_of (word_by s m) target)) c d
-  name-put {d} g = subst (λ (w : List ℕ). Changes (with_label (label_of w target)) c d) name-is g
+  name-room {n} q = record { long = h.long; room = h.room; short = omega (arith, q, length-take (m % 64) (drop (m / 64) s), h.short); low = h.low }
 
 -- ---- all of them
 

@@ -17,7 +17,7 @@ use statements::{Fault, lower};
 use table::Table;
 
 // An instruction: its operator, where that stands and in which line, and its arguments.
-#[derive(Clone, Copy)]
+#[derive(Clone, Copy, Debug, PartialEq, Eq)]
 pub struct Instruction {
     pub operator: Operator,
     pub at: usize,
@@ -66,9 +66,7 @@ fn put_name(text: &[u8], m: usize, target: usize, table: &mut [u32])
     requires { Nameable text.now m target table.old }
     ensures { Changes (with_label (label_of (word_by text.now m) target)) table.old table.new }
 {
-    let at = m / 64;
-    let end = at + m % 64;
-    writing::put_label(table, &text[at..end], target);
+    writing::put_label(table, drafts::word_of(text, m), target);
 }
 
 // Adds the labels of some marks.

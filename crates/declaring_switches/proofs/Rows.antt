@@ -1,15 +1,15 @@
 -- The entries of a list without faults, and their texts.
 use mathlib.Core.Path.{◌≡◌, refl, sym, ap, ◌∙◌, subst}
-use mathlib.Core.Bool.{Bool, true, false, cond, ◌&&◌, true≢false}
+use mathlib.Core.Bool.{Bool, true, false, cond, ◌&&◌}
 use mathlib.Core.List.{List, [], ◌∷◌, ◌++◌, map}
-use Prim.Native.Nat.{ℕ, zero, suc, ◌+◌, ◌-◌, ◌≤◌, ◌<◌}
+use Prim.Native.Nat.{ℕ, zero, suc, ◌<◌}
 use native.Mathlib.Omega.{arith}
-use lib.Dec.{T, not_T}
-use lib.ListN.{length, get_or, take, drop, length-take, length-drop}
-use lib.Seq.{drop-nil, get_or-take, get_or-drop}
-use lib.Ieee.Bits.{is_true}
+use lib.Dec.{T}
+use lib.ListN.{length, get_or, take, drop}
+use lib.Seq.{drop-nil}
+use lib.Ieee.Bits.{is_true, is_false}
 use Rattle.acceptance.proofs.ArgumentLaws.{word-apart}
-use Rattle.acceptance.proofs.RowLaws.{fails, append-none, cond-none}
+use Rattle.acceptance.proofs.RowLaws.{append-none, cond-none}
 use Rattle.switch_lists.specs.Below.Quoted.{Quoted}
 use Rattle.switch_lists.specs.Below.Valued.{Ordered}
 use Rattle.declaring.specs.SpeltLaws.{plain}
@@ -17,12 +17,11 @@ use Rattle.declaring.specs.Below.Entering.{long_text, Held, ShortItem}
 use Rattle.language.specs.Program.{Entry}
 use Rattle.layout.specs.Bounds.{Each}
 use Rattle.layout.proofs.CellLaws.{each_at}
-use Rattle.layout.specs.Cells.{cell}
 use Rattle.lists.specs.Lists.{each, filled, if_any, keep}
 use Rattle.lists.specs.ListLaws.{T-left, T-right, all_head, all_tail, all_cons, all_keep}
-use Rattle.packed.specs.Packed.{table_of}
 use Rattle.statements.specs.LowestLaws.{fault-first}
-use Rattle.statements.specs.PlaceLaws.{stands_from, all_from, places-from}
+use Rattle.statements.specs.PlaceLaws.{places-from}
+use Rattle.statements.specs.Places.{stands_from, all_from}
 use Rattle.statements.specs.StatementAt.{statement_at, fault_of}
 use Rattle.std.specs.Prelude.{Some, Option, None}
 use Rattle.switch_lists.specs.Switches.{text_first, entry_texts, TextCell}
@@ -36,9 +35,6 @@ use Rattle.declaring_switches.specs.Entries.{row_text, RowNamed}
 -- the texts of all rows
 abbrev pub texts_of : List (List Item) → List Item
 texts_of rows = each (take 1) rows
-
-pub no_word : (i : Item) → is text i ≡ true → is word i ≡ false
-no_word i e = fails (is word i) (not_T (is word i) (λ h. true≢false (sym e ∙ (word-apart i h).0)))
 
 -- every text stands right behind a word
 module _ (goes_by_name : Bool) where
@@ -59,7 +55,7 @@ module _ (goes_by_name : Bool) where
         | false ↦ λ a.
             let k : T (is text j && goes_by_name && before) = cond-none (is text j && goes_by_name && before) j.at [] (rw a at parts.0) in
             let here : is text j ≡ true = is_true (is text j) (T-left (is text j) goes_by_name (T-left (is text j && goes_by_name) before k)) in
-            let bare : filled j.colon ≡ false = fails (filled j.colon) (rw a at h.0) in
+            let bare : filled j.colon ≡ false = is_false (filled j.colon) (rw a at h.0) in
             let rest = behind js h.1 false (filled j.colon) (λ q. rw bare at q) parts.1 in
             rw (a, here, is_true w (f (T-right (is text j && goes_by_name) before k))) (ap (◌∷◌ j) rest)
       ] refl
@@ -167,24 +163,12 @@ module _ {s : List ℕ} {d : Declaration} {c : List ℕ} {tx : List (Option Quot
   pub rows_are : length rows_in ≡ d.list.words
   rows_are = rows-count (statement_at s d.begin) ∙ sym l.words_is
 
-  module _ {k : ℕ} (from : cell (table_of c) 3 ≤ k) (more : k < cell (table_of c) 3 + d.list.words) (room : k < 128) {m : Option Quoted} (x : m ≡ get_or tx k None) where
-    pub cell-here : TextCell s m (get_or rows_in (k - cell (table_of c) 3) [])
-    cell-here =
-        let y : cell (table_of c) 3 + (k - cell (table_of c) 3) ≡ k = omega arith in
-        rw x (rw y at (l.texts (k - cell (table_of c) 3) (omega (arith, rows_are)) (omega arith)))
+  module _ {k : ℕ} (more : k < length tx) where
+    pub row-inside : k < length rows_in
+    row-inside = omega (arith, more, l.text_count, rows_are)
 
-    pub row_named : {e : List ℕ} → Held e → RowNamed s m e
-    row_named u = record { row = get_or rows_in (k - cell (table_of c) 3) []; named = cell-here; short = each_at (Each ShortItem) [] tt rows_in (rows_short (statement_at s d.begin) l.short) (k - cell (table_of c) 3); held = u }
+    pub cell-here : TextCell s (get_or tx k None) (get_or rows_in k [])
+    cell-here = l.texts k row-inside more
 
--- ---- the part of the cells tx from place h, which is k, up to place e
-
-module _ (tx : List (Option Quoted)) {h k : ℕ} (e i : ℕ) (q : h ≡ k) where
-  pub part-end : e ≤ length tx → length (take (e - h) (drop h tx)) ≤ i → e ≤ k + i
-  part-end m l = omega (arith, m, l, q, length-take (e - h) (drop h tx), length-drop h tx)
-
-  pub part-place : i < length (take (e - h) (drop h tx)) → k + i < e
-  part-place l = omega (arith, l, q, length-take (e - h) (drop h tx))
-
-  pub part-cell : i < length (take (e - h) (drop h tx)) → get_or (take (e - h) (drop h tx)) i None ≡ get_or tx (k + i) None
-  part-cell l =
-      get_or-take (e - h) (drop h tx) i None (omega (arith, l, length-take (e - h) (drop h tx))) ∙ get_or-drop h tx i None ∙ ap (λ (j : ℕ). get_or tx (j + i) None) q
+    pub row_named : {e : List ℕ} → Held e → RowNamed s (get_or tx k None) e
+    row_named u = record { row = get_or rows_in k []; named = cell-here; short = each_at (Each ShortItem) [] tt rows_in (rows_short (statement_at s d.begin) l.short) k; held = u }

@@ -29,7 +29,7 @@ use Rattle.writing.proofs.Held.{switch_count, entry_count}
 use Rattle.writing.proofs.Rooms.{switch_room}
 use Rattle.declaring_switches.specs.declared.Declaration.{Declaration}
 use Rattle.declaring_switches.specs.DeclaringSwitches.{ListedSwitch, switch_excess, with_texts, JudgeableSwitch, JudgesSwitch}
-use Rattle.declaring_switches.specs.Entries.{Listing, Lists}
+use Rattle.declaring_switches.proofs.Entries.{Listing, Lists}
 use Rattle.declaring_switches.specs.Switches.{with_list, WritableSwitch, WritesSwitch, DeclarableSwitch, DeclaresSwitch}
 
 same_entries : (b : Bool) (p : Program) → all_entries (with_switch b p) ≡ all_entries p
@@ -48,8 +48,8 @@ same-list {s} {d} {c} {e} {tx} q l =
       words_is = l.words_is;
       few = l.few;
       over_is = rw q l.over_is;
-      texts = rw q l.texts;
-      text_room = l.text_room;
+      texts = l.texts;
+      text_count = rw q l.text_count;
       ordered = l.ordered;
       right = l.right;
       short = l.short;

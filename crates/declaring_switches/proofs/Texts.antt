@@ -2,13 +2,14 @@
 use mathlib.Core.Path.{◌≡◌, refl, sym, ap, ◌∙◌, subst}
 use mathlib.Core.Bool.{Bool, true, false, true≢false}
 use mathlib.Core.List.{List, [], ◌∷◌, ◌++◌, append-nil, append_assoc}
-use Prim.Native.Nat.{ℕ, zero, suc, ◌+◌, ◌-◌, ◌≤◌, ◌<◌, min}
+use Prim.Native.Nat.{ℕ, zero, suc, ◌+◌, ◌-◌, ◌≤◌, ◌<◌}
 use native.Mathlib.Decide.{dec_lt}
 use native.Mathlib.Omega.{arith}
 use lib.Dec.{T, leb}
 use lib.ListN.{length, get_or, drop, length-map, drop_of_length-le}
 use lib.Seq.{drop-cons, drop-nil}
 use Rattle.acceptance.proofs.RowLaws.{drop-none}
+use Rattle.switch_lists.specs.Below.HeadLaws.{lower-assoc}
 use Rattle.switch_lists.specs.Below.Valued.{Ordered}
 use Rattle.switch_lists.specs.Below.Quoted.{Quoted}
 use Rattle.declaring.specs.Below.ArgumentCells.{TextNamed, TextTold}
@@ -27,12 +28,13 @@ use Rattle.layout.specs.Table.{text_ref, all_entries}
 use Rattle.lists.specs.Lists.{keep, bytes_equal}
 use Rattle.lists.specs.ListLaws.{all_tail, all_keep}
 use Rattle.packed.specs.Packed.{table_of}
-use Rattle.statements.specs.LowestLaws.{none_before, fault-first}
-use Rattle.statements.specs.PlaceLaws.{stands_from, all_from, places-from}
+use Rattle.statements.specs.LowestLaws.{fault-first}
+use Rattle.statements.specs.PlaceLaws.{places-from}
+use Rattle.statements.specs.Places.{none_before, stands_from, all_from}
 use Rattle.statements.specs.StatementAt.{statement_at, fault_of}
 use Rattle.statements.specs.Faults.{Fault}
 use Rattle.std.specs.Prelude.{Option, None, Some, Result, Ok, Err, IfErr, is_ok}
-use Rattle.std.proofs.lemmas.Option.{none-some}
+use Rattle.std.proofs.lemmas.Option.{none-some, same_Some}
 use Rattle.switch_lists.specs.Switches.{entry_texts, NamesItem, TextCell}
 use Rattle.syntax.specs.Items.{Item, is, places}
 use Rattle.syntax.specs.Items.Sort.{word, text}
@@ -42,23 +44,16 @@ use Rattle.syntax.specs.Verdict.{lowest}
 use Rattle.writing.specs.Writing.{HoldsProgram}
 use Rattle.writing.proofs.Held.{entry_count}
 use Rattle.declaring_switches.specs.declared.Declaration.{Declaration}
-use Rattle.declaring_switches.specs.DeclaringSwitches.{ListedSwitch, SwitchTold, switch_excess, with_texts, JudgeableSwitch, EntersTexts, JudgesSwitch}
+use Rattle.declaring_switches.specs.DeclaringSwitches.{ListedSwitch, SwitchTold, switch_excess, with_texts, JudgeableSwitch, JudgesSwitch}
 use Rattle.declaring_switches.specs.Entries.{row_text, RowNamed, RowTold, RowEnters, RowEntered}
-use Rattle.declaring_switches.proofs.Rows.{texts_of, texts-behind, long-behind, ordered-keep, ordered-drop, texts-over, rows_in, rows_are, cell-here, row_named}
+use Rattle.declaring_switches.proofs.Rows.{texts_of, texts-behind, long-behind, ordered-keep, ordered-drop, texts-over, rows_in, rows_are, row-inside, cell-here, row_named}
 
 -- ---- a cell
-
-abbrev quoted-in : Quoted → Option Quoted → Quoted
-quoted-in d None = d
-quoted-in d (Some q) = q
-
-some-same : {a b : Quoted} → Some a ≡ Some b → a ≡ b
-some-same {a} e = ap (quoted-in a) e
 
 -- an entry with a text, and one with none
 some-row : {s : List ℕ} {q : Quoted} (P : List Item → Type 0) → ((j : Item) (js : List Item) → NamesItem s q j → P (j ∷ js)) → {m : Option Quoted} → m ≡ Some q → (row : List Item) → TextCell s m row → P row
 some-row P b e [] h = absurd (none-some _ (sym h ∙ e))
-some-row {s} P b e (j ∷ js) h = b j js (subst (λ k. NamesItem s k j) (some-same (sym h.1.0 ∙ e)) h.1.1)
+some-row {s} P b e (j ∷ js) h = b j js (subst (λ k. NamesItem s k j) (same_Some _ _ (sym h.1.0 ∙ e)) h.1.1)
 
 none-row : (s : List ℕ) (P : List Item → Type 0) → P [] → {m : Option Quoted} → m ≡ None → (row : List Item) → TextCell s m row → P row
 none-row s P a e [] h = a
@@ -153,11 +148,25 @@ low-lower p ps h = sym (fault-both (p ∷ []) ps) ∙ fault-first p ps h
 
 -- ---- the loop
 
-pub record Entering (s : List ℕ) (d : Declaration) (c e : List ℕ) (k : ℕ) : Type 0 where
-  pub from : cell (table_of c) 3 ≤ k
-  pub most : k ≤ 128
-  pub entered : (p : Program) → HoldsProgram c p → Entered (entry_texts (statement_at s d.begin)) (drop (k - cell (table_of c) 3) (entry_texts (statement_at s d.begin))) p e
+-- the texts of the list are entered, or the place of one is told; that of a text in excess behind an entry in excess is not
+pub record EntersTexts (s : List ℕ) (d : Declaration) (c : List ℕ) (r : Fault) (c' : List ℕ) : Type 0 where
+  pub told : (p : Program) → HoldsProgram c p → lower d.list.over r ≡ lower d.list.over (fault_of (texts_excess s d.begin p))
+  pub holds : d.list.over ≡ None → r ≡ None → (p : Program) → HoldsProgram c p → HoldsProgram c' (with_texts s d.begin p)
+  pub beyond_same : drop 8192 c' ≡ drop 8192 c
+
+-- place k of the cells tx is reached
+pub record Entering (s : List ℕ) (d : Declaration) (c : List ℕ) (tx : List (Option Quoted)) (e : List ℕ) (k : ℕ) : Type 0 where
+  pub most : k ≤ length tx
+  pub entered : (p : Program) → HoldsProgram c p → Entered (entry_texts (statement_at s d.begin)) (drop k (entry_texts (statement_at s d.begin))) p e
   pub beyond_same : drop 8192 e ≡ drop 8192 c
+
+pub entering-first : {s : List ℕ} {d : Declaration} {c : List ℕ} {tx : List (Option Quoted)} {k : ℕ} → k ≡ 0 → Entering s d c tx c k
+entering-first e =
+    record {
+      most = omega (arith, e);
+      entered = λ p h. record { table = p.texts; holds = rw (texts-laws.same p) h; over_is = rw e; all_is = rw e };
+      beyond_same = refl;
+    }
 
 module _ {s : List ℕ} {d : Declaration} {c : List ℕ} {tx : List (Option Quoted)} (pre : JudgeableSwitch s d c tx) where
   abbrev js : List Item
@@ -172,9 +181,6 @@ module _ {s : List ℕ} {d : Declaration} {c : List ℕ} {tx : List (Option Quot
   abbrev rows : List (List Item)
   rows = rows_in l
 
-  pub held_most : held ≤ 128
-  held_most = omega (arith, entry_count c pre.held.program pre.held.holds, pre.held.holds.tabular.entries_most)
-
   rows-ordered : Ordered (texts_of rows)
   rows-ordered = rw (texts-behind d.named js (statement-plain s d.begin l.inside) l.right) at (ordered-keep (is text) js l.ordered)
 
@@ -188,66 +194,51 @@ module _ {s : List ℕ} {d : Declaration} {c : List ℕ} {tx : List (Option Quot
   all-rows : (p : Program) → all_added bytes_equal (λ i. i.chars) long_text p.texts js ≡ with_all p.texts rows
   all-rows p = rw long-here
 
-  pub entering-first : {k : ℕ} → k ≡ held → Entering s d c c k
-  entering-first {k} e =
-      let z : k - held ≡ 0 = omega (arith, e) in
-      record {
-        from = omega (arith, e);
-        most = omega (arith, e, held_most);
-        entered = λ p h. record { table = p.texts; holds = rw (texts-laws.same p) h; over_is = rw z; all_is = rw z };
-        beyond_same = refl;
-      }
-
-  module _ {e : List ℕ} {k : ℕ} (u : Entering s d c e k) where
-    abbrev at : ℕ
-    at = k - held
-
+  module _ {e : List ℕ} {k : ℕ} (u : Entering s d c tx e k) where
     abbrev row : List Item
-    row = get_or rows at []
+    row = get_or rows k []
 
-    module _ {end : ℕ} (g : end ≡ min (held + d.list.words) 128) (more : k < end) where
-      rest_is : drop at rows ≡ row ∷ drop (suc at) rows
-      rest_is = drop-cons rows at [] (omega (arith, g, more, u.from, rows_are l))
+    module _ (more : k < length tx) where
+      rest_is : drop k rows ≡ row ∷ drop (suc k) rows
+      rest_is = drop-cons rows k [] (row-inside l more)
 
-      module _ {m : Option Quoted} (x : m ≡ get_or tx k None) where
-        here : TextCell s m row
-        here = cell-here l u.from (omega (arith, g)) (omega (arith, g)) x
+      pub row-enterable : RowNamed s (get_or tx k None) e
+      row-enterable = row_named l more (record { program = _; holds = (u.entered pre.held.program pre.held.holds).holds })
 
-        pub row-enterable : RowNamed s m e
-        row-enterable = row_named l u.from (omega (arith, g)) (omega (arith, g)) x (record { program = _; holds = (u.entered pre.held.program pre.held.holds).holds })
+      module _ {r : Result (Unit {0}) ℕ} {e' : List ℕ} (h : RowEntered s (get_or tx k None) e r e') where
+        now : (p : Program) → HoldsProgram c p → Entered rows (row ∷ drop (suc k) rows) p e
+        now p q = rw rest_is at (u.entered p q)
 
-        module _ {r : Result (Unit {0}) ℕ} {e' : List ℕ} (h : RowEntered s m e r e') where
-          now : (p : Program) → HoldsProgram c p → Entered rows (row ∷ drop (suc at) rows) p e
-          now p q = rw rest_is at (u.entered p q)
+        by : {o : Result (Unit {0}) ℕ} → r ≡ o → RowEnters row e o e'
+        by q = subst (λ (o : Result (Unit {0}) ℕ). RowEnters row e o e') q (h.of row (cell-here l more))
 
-          pub entering-more : r ≡ Ok tt → {k' : ℕ} → k' ≡ k + 1 → Entering s d c e' k'
-          entering-more q {k'} f =
-              let z : k' - held ≡ suc at = omega (arith, u.from, f) in
-              record {
-                from = omega (arith, u.from, f);
-                most = omega (arith, g, more, f);
-                entered = λ p w. rw z (entered-row (drop (suc at) rows) row (now p w) (subst (λ (o : Result (Unit {0}) ℕ). RowEnters row e o e') q (h.of row here)));
-                beyond_same = h.beyond_same ∙ u.beyond_same;
-              }
+        pub entering-more : r ≡ Ok tt → {k' : ℕ} → k' ≡ k + 1 → Entering s d c tx e' k'
+        entering-more q {k'} f =
+            let z : k' ≡ suc k = omega (arith, f) in
+            record {
+              most = omega (arith, more, f);
+              entered = λ p w. rw z (entered-row (drop (suc k) rows) row (now p w) (by q));
+              beyond_same = h.beyond_same ∙ u.beyond_same;
+            }
 
-          pub text-refused : {place : ℕ} → r ≡ Err place → EntersTexts s d c (Some place) e'
-          text-refused q =
-              record {
-                told = λ p w.
-                    ap (lower d.list.over)
-                    (sym (ap fault_of (over-rows p) ∙ refused-row (drop (suc at) rows) row (rw rest_is at (ordered-drop rows rows-ordered at)) (now p w) e' (subst (λ (o : Result (Unit {0}) ℕ). RowEnters row e o e') q (h.of row here))));
-                holds = λ o f. absurd (let y : ◌≡◌ {A = ℕ} 0 1 = cc in omega arith);
-                beyond_same = h.beyond_same ∙ u.beyond_same;
-              }
+        pub text-refused : {place : ℕ} → r ≡ Err place → EntersTexts s d c (Some place) e'
+        text-refused q =
+            record {
+              told = λ p w.
+                  ap (lower d.list.over)
+                  (sym (ap fault_of (over-rows p) ∙ refused-row (drop (suc k) rows) row (rw rest_is at (ordered-drop rows rows-ordered k)) (now p w) e' (by q)));
+              holds = λ o f. absurd (let y : ◌≡◌ {A = ℕ} 0 1 = cc in omega arith);
+              beyond_same = h.beyond_same ∙ u.beyond_same;
+            }
 
-    module _ {end : ℕ} (g : end ≡ min (held + d.list.words) 128) (done : end ≤ k) where
+    module _ (done : length tx ≤ k) where
       count-over : length (places (keep (is word) js)) ≡ d.list.words
       count-over = length-map (keep (is word) js) (λ (i : Item). i.at) ∙ sym l.words_is
 
-      none_left : d.list.over ≡ None → drop at rows ≡ []
+      none_left : d.list.over ≡ None → drop k rows ≡ []
       none_left o =
           let n = drop-none (128 - held) (places (keep (is word) js)) (no-fault (drop (128 - held) (places (keep (is word) js))) (sym l.over_is ∙ o)) in
-          drop_of_length-le rows {i = at} (omega (arith, n, count-over, rows_are l, g, done, held_most))
+          drop_of_length-le rows {i = k} (omega (arith, n, count-over, rows_are l, l.text_count, done))
 
       told-by : (o : Fault) → d.list.over ≡ o → (p : Program) → HoldsProgram c p → lower o None ≡ lower o (fault_of (over_by p.texts rows))
       told-by None x p w =
@@ -261,9 +252,9 @@ module _ {s : List ℕ} {d : Declaration} {c : List ℕ} {tx : List (Option Quot
                 let e : Some q ≡ None = sym x ∙ l.over_is ∙ ap fault_of (drop_of_length-le (places (keep (is word) js)) {i = 128 - held} (omega (arith, count-over))) in
                 absurd (let n : ◌≡◌ {A = ℕ} 0 1 = cc in omega arith)
           ] in
-          let z : 128 - held ≡ at = omega (arith, g, done, u.from, u.most, held_most, many) in
+          let z : 128 - held ≡ k = omega (arith, done, u.most, l.text_count, many) in
           sym (ap (λ (ps : List ℕ). lower (Some q) (fault_of ps)) v.over_is
-          ∙ low-lower q (over_by v.table (drop at rows)) (over-from q v.table (texts_of (drop at rows))
+          ∙ low-lower q (over_by v.table (drop k rows)) (over-from q v.table (texts_of (drop k rows))
           (rw z at (texts-over js l.ordered (128 - held) q (sym l.over_is ∙ x)))))
 
       pub texts-entered : EntersTexts s d c None e
@@ -280,20 +271,25 @@ module _ {s : List ℕ} {d : Declaration} {c : List ℕ} {tx : List (Option Quot
 
 -- ---- all of question 11
 
+pub lower-rest : (f : Fault) → f ≡ lower f None
+lower-rest None = refl
+lower-rest (Some p) = refl
+
 pub judged-switch : {s : List ℕ} {d : Declaration} {c : List ℕ} {tx : List (Option Quoted)} → JudgeableSwitch s d c tx → {tr : Fault} {e : List ℕ} → EntersTexts s d c tr e → {a x y : Fault}
-    → SwitchTold c d.at a → x ≡ lower d.list.over tr → y ≡ lower a x → JudgesSwitch s d c y e
+    → SwitchTold c d.at a → x ≡ lower a d.list.over → y ≡ lower x tr → JudgesSwitch s d c y e
 unfolding switch_excess
 judged-switch {s} {d} {c} pre {tr} {e} t {a} {x} {y} h f g =
+    let y_is : y ≡ lower a (lower d.list.over tr) = g ∙ ap (λ (z : Fault). lower z tr) f ∙ lower-assoc a d.list.over tr in
     record {
       told = λ p w.
           let ps = beyond 32 (length p.switches) (d.at ∷ []) in
           let qs = beyond 128 (length (all_entries p)) (places (keep (is word) (statement_at s d.begin))) in
           let rs = texts_excess s d.begin p in
           let o : d.list.over ≡ fault_of qs = pre.list.over_is ∙ ap (λ (m : ℕ). fault_of (drop (128 - m) (places (keep (is word) (statement_at s d.begin))))) (entry_count c p w) in
-          g ∙ ap (lower a) (f ∙ t.told p w) ∙ ap (λ (z : Fault). lower z (lower d.list.over (fault_of rs))) (h p w) ∙ ap (λ (z : Fault). lower (fault_of ps) (lower z (fault_of rs))) o
+          y_is ∙ ap (lower a) (t.told p w) ∙ ap (λ (z : Fault). lower z (lower d.list.over (fault_of rs))) (h p w) ∙ ap (λ (z : Fault). lower (fault_of ps) (lower z (fault_of rs))) o
           ∙ sym (ap fault_of (append_assoc ps qs rs) ∙ fault-both ps (qs ++ rs) ∙ ap (lower (fault_of ps)) (fault-both qs rs));
       holds = λ q.
-          let k = lower-clear d.list.over tr (sym f ∙ (lower-clear a x (sym g ∙ q)).1) in
+          let k = lower-clear d.list.over tr (lower-clear a (lower d.list.over tr) (sym y_is ∙ q)).1 in
           t.holds k.0 k.1;
       beyond_same = t.beyond_same;
     }

@@ -1,9 +1,8 @@
 -- A statement with a switch comes to the program table: question 11, and the program with it.
-use Rattle.std.specs.Prelude.{◌≡◌, false, List, [], ◌∷◌, ◌++◌, ℕ, ◌≤◌, length, drop}
+use Rattle.std.specs.Prelude.{◌≡◌, false, List, [], ◌∷◌, ◌++◌, ℕ, ◌-◌, ◌≤◌, min, length, drop}
 use Rattle.switch_lists.specs.Below.Valued.{Ordered}
 use Rattle.declaring.specs.Declaring.{texts_excess}
 use Rattle.declaring.specs.Below.Entering.{all_added, long_text, set_texts, Held, ShortItem}
-use Rattle.statements.specs.Faults.{lower}
 use Rattle.language.specs.Limits as limit
 use Rattle.language.specs.Program.{Program}
 use Rattle.layout.specs.Bounds.{Each}
@@ -29,8 +28,8 @@ pub record ListedSwitch (s : List ℕ) (d : Declaration) (c : List ℕ) (tx : Li
   pub words_is : d.list.words ≡ length (keep (is word) (statement_at s d.begin))
   pub few : d.list.words ≤ limit.text
   pub over_is : d.list.over ≡ fault_of (beyond limit.entries (cell (table_of c) 3) (places (keep (is word) (statement_at s d.begin))))
-  pub texts : TextsNamed s d.begin (cell (table_of c) 3) tx
-  pub text_room : length tx ≡ limit.entries
+  pub texts : TextsNamed s d.begin tx
+  pub text_count : length tx ≡ min d.list.words (limit.entries - cell (table_of c) 3)
   pub ordered : Ordered (statement_at s d.begin)
   pub right : list_faults d.named false (statement_at s d.begin) ≡ []
   pub short : Each ShortItem (statement_at s d.begin)
@@ -53,12 +52,6 @@ with_texts s n p = set_texts (all_added bytes_equal (λ i. i.chars) long_text p.
 pub record JudgeableSwitch (s : List ℕ) (d : Declaration) (c : List ℕ) (tx : List (Option Quoted)) : Type 0 where
   pub list : ListedSwitch s d c tx
   pub held : Held c
-
--- a text in excess behind an entry in excess is not told
-pub record EntersTexts (s : List ℕ) (d : Declaration) (c : List ℕ) (r : Fault) (c' : List ℕ) : Type 0 where
-  pub told : (p : Program) → HoldsProgram c p → lower d.list.over r ≡ lower d.list.over (fault_of (texts_excess s d.begin p))
-  pub holds : d.list.over ≡ None → r ≡ None → (p : Program) → HoldsProgram c p → HoldsProgram c' (with_texts s d.begin p)
-  pub beyond_same : drop limit.table c' ≡ drop limit.table c
 
 pub record JudgesSwitch (s : List ℕ) (d : Declaration) (c : List ℕ) (r : Fault) (c' : List ℕ) : Type 0 where
   pub told : (p : Program) → HoldsProgram c p → r ≡ fault_of (switch_excess s d.at d.begin p)

@@ -1,10 +1,10 @@
 -- The entries of a switch come to the program table one by one.
-use Rattle.std.specs.Prelude.{◌≡◌, Option, Result, Ok, IfErr, is_ok, List, [], ◌∷◌, ◌++◌, ℕ, ◌+◌, ◌≤◌, ◌<◌, length, drop}
+use Rattle.std.specs.Prelude.{◌≡◌, Option, Result, Ok, IfErr, is_ok, List, [], ◌∷◌, ◌++◌, ℕ, drop}
 use Rattle.declaring.specs.Below.Entering.{Held, ShortItem, EntersOne, long_text, set_texts}
 use Rattle.language.specs.Limits as limit
 use Rattle.language.specs.Program.{Entry, Switch, Program}
 use Rattle.layout.specs.Bounds.{Each, KeptText}
-use Rattle.layout.specs.Table.{text_ref, all_entries}
+use Rattle.layout.specs.Table.{text_ref}
 use Rattle.lists.specs.Lists.{if_any, bytes_equal}
 use Rattle.declaring.specs.Below.Finding.{Tells}
 use Rattle.statements.specs.StatementAt.{statement_at}
@@ -12,9 +12,7 @@ use Rattle.switch_lists.specs.Below.Quoted.{Quoted}
 use Rattle.switch_lists.specs.Switches.{TextCell}
 use Rattle.syntax.specs.Items.{Item}
 use Rattle.syntax.specs.Statements.{entries_in}
-use Rattle.writing.specs.Writing.{HoldsProgram, with_switches, on_last}
-use Rattle.declaring_switches.specs.declared.Declaration.{Declaration}
-use Rattle.declaring_switches.specs.DeclaringSwitches.{ListedSwitch}
+use Rattle.writing.specs.Writing.{with_switches, on_last}
 
 -- the text of an entry, of a row of one item or none
 abbrev pub row_text : List Item → List ℕ
@@ -52,14 +50,3 @@ KeptEntries p es = Each (λ e. KeptText p e.text) es
 -- all entries of the list from place n on; their labels are not known yet
 abbrev pub list_entries : List ℕ → ℕ → List Entry
 list_entries s n = entries_in (λ w. 0) (statement_at s n)
-
-pub record Listing (s : List ℕ) (d : Declaration) (c : List ℕ) (tx : List (Option Quoted)) : Type 0 where
-  pub list : ListedSwitch s d c tx
-  pub held : Held c
-  pub some : 0 < length held.program.switches
-  pub room : length (all_entries held.program) + d.list.words ≤ limit.entries
-  pub kept : KeptEntries held.program (list_entries s d.begin)
-
-pub record Lists (s : List ℕ) (d : Declaration) (c c' : List ℕ) : Type 0 where
-  pub holds : (p : Program) → HoldsProgram c p → KeptEntries p (list_entries s d.begin) → HoldsProgram c' (with_entries (list_entries s d.begin) p)
-  pub beyond_same : drop limit.table c' ≡ drop limit.table c

@@ -1,5 +1,5 @@
 -- The tables of a text, kept as they are, take a switch.
-use Rattle.std.specs.Prelude.{◌≡◌, refl, Bool, true, false, cond, ◌&&◌, ℕ, suc, ◌<◌, T, eqb, get_or, take, set}
+use Rattle.std.specs.Prelude.{◌≡◌, refl, Bool, true, false, cond, ◌&&◌, ℕ, suc, ◌+◌, ◌<◌, T, eqb, get_or, take, set}
 use Rattle.std.proofs.Math.Path.{ap}
 use Rattle.std.proofs.Common.{◌∙◌, arith, length-append, take-suc-set, get_or-set_same, get_or-set_other, eqb-true}
 use mathlib.Core.List.{List, [], ◌∷◌, ◌++◌, map, map-append}
@@ -21,10 +21,9 @@ use Rattle.lexer.specs.declared.Token.{Token}
 use Rattle.lists.specs.Lists.{each, head_or, if_any, keep}
 use Rattle.machine.specs.WellFormed.{good_text, kept_text}
 use Rattle.packed.specs.Packed.{table_of}
-use Rattle.statements.specs.StatementAt.{fault_of}
+use Rattle.statements.specs.StatementAt.{statement_at, fault_of}
 use Rattle.statements.specs.Faults.{Fault}
 use Rattle.std.specs.Prelude.{None}
-use Rattle.switch_lists.specs.Switches.{MarksAdded}
 use Rattle.syntax.specs.Items.{Item, is}
 use Rattle.syntax.specs.Items.Sort.{word, text}
 use Rattle.syntax.specs.Questions.{switch_beyond}
@@ -62,7 +61,7 @@ module _ (lines : List ℕ) (t : Tables) (b : Bool) (ls : List Item) {s : List �
     switch-told g = u.told p g ∙ ap fault_of excess-is
 
     -- and the tables with the switch
-    module _ {en : List ℕ} (v : Tabled s lines t c sw en) (en' : List ℕ) (marks : MarksAdded s o.next (cell (table_of c) 3) en en') (sound : SoundTables (length s) (with_switch t ls x b)) (spelt : Each (Spelt s) (rest x))
+    module _ {en : List ℕ} (v : Tabled s lines t c sw en) (en' : List ℕ) (marks : take (cell (table_of c) 3 + length (keep (is word) (statement_at s o.next))) en' ≡ take (cell (table_of c) 3) en ++ map mark (keep (is word) (statement_at s o.next))) (sound : SoundTables (length s) (with_switch t ls x b)) (spelt : Each (Spelt s) (rest x))
         (name-is : word_by s name ≡ head_or [] (contents ls)) (name-there : Marked s name) (size : length en' ≡ length en)
         (kept : KeptEntries (with_texts s o.next p) (list_entries s o.next)) (e : r ≡ None) where
       abbrev k : ℕ

@@ -2,8 +2,8 @@
 #![tactic(auto)]
 
 ghost use Rattle.table.specs.Denote.{ref_number};
-ghost use Rattle.declaring_switches.specs.DeclaringSwitches.{SwitchTold, JudgeableSwitch, EntersTexts, JudgesSwitch};
-ghost use Rattle.declaring_switches.specs.Entries.{RowNamed, RowTold, RowEntered, Listing, Lists};
+ghost use Rattle.declaring_switches.specs.DeclaringSwitches.{SwitchTold, JudgeableSwitch, JudgesSwitch};
+ghost use Rattle.declaring_switches.specs.Entries.{RowNamed, RowTold, RowEntered};
 ghost use Rattle.declaring_switches.specs.Switches.{WritableSwitch, WritesSwitch, DeclarableSwitch, DeclaresSwitch};
 
 use declaring::from_arguments::Quoted;
@@ -16,7 +16,7 @@ use table::{Table, TextRef};
 // A switch as its statement gives it: the place of its operator, the place where its list begins, whether it is NAZWA, the mark of its name, and what its
 // list has.
 // A flag, as `goes_by_name : Bool` is in the specification of a switch: no third type of switch is possible, and the table has the flag in a cell.
-#[derive(Clone, Copy)]
+#[derive(Clone, Copy, Debug, PartialEq, Eq)]
 pub struct Declaration {
     pub at: usize,
     pub begin: usize,
@@ -46,30 +46,18 @@ fn enter_entry(text: &[u8], entry: Option<Quoted>, table: &mut [u32]) -> Result<
     Err(q.at)
 }
 
-// Adds the texts of the list, entry by entry; the place of the first that has no room.
-// `texts` is a row of fixed size, a cell for each entry that a table can have; those of this list begin behind the entries held.
-fn enter_texts(text: &[u8], d: Declaration, table: &mut [u32], texts: &[Option<Quoted>]) -> Fault
-    requires { JudgeableSwitch text.now d table.old texts.now }
-    ensures { EntersTexts text.now d table.old result table.new }
-{
-    let held = Table { cells: table }.entries();
-    let end = (held + d.list.words).min(Machine::ENTRIES);
-    for entry in &texts[held..end] {
-        if let Err(at) = enter_entry(text, *entry, table) {
-            return Some(at);
-        }
-    }
-    None
-}
-
-// Question 11; its texts come to the table.
+// Question 11; the texts of the list come to the table, entry by entry, up to the first that has no room.
 fn judge_switch(text: &[u8], d: Declaration, table: &mut [u32], texts: &[Option<Quoted>]) -> Fault
     requires { JudgeableSwitch text.now d table.old texts.now }
     ensures { JudgesSwitch text.now d table.old result table.new }
 {
-    let a = switch_beyond(Table { cells: table }, d.at);
-    let b = enter_texts(text, d, table, texts);
-    lower(a, lower(d.list.over, b))
+    let fault = lower(switch_beyond(Table { cells: table }, d.at), d.list.over);
+    for entry in texts {
+        if let Err(at) = enter_entry(text, *entry, table) {
+            return lower(fault, Some(at));
+        }
+    }
+    fault
 }
 
 // The reference of the text of an entry.
@@ -83,20 +71,7 @@ fn entry_ref(text: &[u8], entry: Option<Quoted>, table: Table) -> TextRef
     }
 }
 
-// Adds the entries of the list to the last switch.
-fn put_entries(text: &[u8], d: Declaration, table: &mut [u32], texts: &[Option<Quoted>])
-    requires { Listing text.now d table.old texts.now }
-    ensures { Lists text.now d table.old table.new }
-{
-    let held = Table { cells: table }.entries();
-    let end = held + d.list.words;
-    for entry in &texts[held..end] {
-        let v = entry_ref(text, *entry, Table { cells: table });
-        writing::put_entry(table, 0, v);
-    }
-}
-
-// Adds the switch with its list, and the mark of its name.
+// Adds the switch with the entries of its list, and the mark of its name.
 fn write_switch(
     text: &[u8],
     d: Declaration,
@@ -109,11 +84,14 @@ fn write_switch(
 {
     let n = Table { cells: table }.switches();
     writing::put_switch(table, d.named);
-    put_entries(text, d, table, texts);
+    for entry in texts {
+        let v = entry_ref(text, *entry, Table { cells: table });
+        writing::put_entry(table, 0, v);
+    }
     switches[n] = d.name;
 }
 
-// Question 11 of a switch, and where it is answered yes, the switch.
+// Question 11 of a switch, and where it is answered yes, the switch. `texts` has a cell for each entry of its list, up to the last that has room.
 pub fn declare_switch(
     text: &[u8],
     d: Declaration,

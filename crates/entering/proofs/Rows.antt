@@ -9,7 +9,7 @@ use lib.Dec.{T}
 use lib.ListN.{length, get_or, get_or-eq_default, drop, drop_of_length-le}
 use lib.Seq.{drop-nil}
 use Rattle.language.specs.Program.{Program}
-use Rattle.statements.specs.PlaceLaws.{all_from}
+use Rattle.statements.specs.Places.{all_from}
 use Rattle.statements.specs.Faults.{Fault}
 use Rattle.std.specs.Prelude.{None, Some}
 use Rattle.syntax.specs.Items.{Item, a_mark}

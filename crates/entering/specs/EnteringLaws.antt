@@ -8,7 +8,8 @@ use Rattle.std.proofs.Math.Dec.{T}
 use Rattle.std.proofs.lemmas.Bool.{not-true, not-false}
 use Rattle.lists.specs.Lists.{any, keep}
 use Rattle.lists.specs.ListLaws.{all_head, all_tail, all_cons, all_keep}
-use Rattle.statements.specs.PlaceLaws.{stands_from, all_from, lowest-places}
+use Rattle.statements.specs.PlaceLaws.{lowest-places}
+use Rattle.statements.specs.Places.{stands_from, all_from}
 use Rattle.statements.specs.StatementAt.{fault_of}
 use Rattle.std.specs.Prelude.{Some}
 use Rattle.syntax.specs.Items.{Item}

@@ -2,20 +2,19 @@
 use mathlib.Core.Path.{◌≡◌, refl, ap, sym, ◌∙◌}
 use mathlib.Core.Bool.{Bool, true, false, cond, ◌&&◌, ◌||◌}
 use mathlib.Core.List.{List, [], ◌∷◌, map}
-use Prim.Native.Nat.{ℕ, ◌+◌, ◌*◌, ◌^◌, ◌%◌, ◌<◌}
-use lib.Dec.{T, eqb, ltb, eqb→eq, ltb→lt}
+use Prim.Native.Nat.{ℕ, ◌+◌, ◌^◌, ◌<◌}
+use lib.Dec.{eqb, eqb→eq}
 use lib.ListN.{drop}
 use Rattle.language.specs.Letters.{Letter}
+use Rattle.language.specs.Letters.Letter.{A}
 use Rattle.language.specs.Program.{identifier}
 use Rattle.language.specs.Values.{amount, numeral, value_of, in_range}
 use Rattle.words.specs.Below.LayoutCells.{code}
 use Rattle.words.specs.Below.Table.{letter_place}
-use Rattle.lists.specs.ListLaws.{T-left, T-right}
 use Rattle.lists.specs.Lists.{head_or, keep, among}
 use Rattle.lists.specs.TableLaws.{below, Missed, missed}
 use Rattle.words.specs.Below.ArgumentForms.{is_indexed, letter_of, word_reads}
 use Rattle.words.specs.Words.{is_class, numeral_of, indexed_of}
-use Rattle.words.specs.declared.Lettered.{Lettered}
 use Rattle.std.proofs.Common.{Option, None, Some, eqb-true}
 use Rattle.std.proofs.lemmas.Bool.{eqb-false}
 use Rattle.forms.specs.Forms.{forms, bits, mask, bit_of, only, set_at}
@@ -55,18 +54,6 @@ pub taken_parts : (op place kinds : ℕ) (live : Live) {p q : Bool} {a b c d : �
 unfolding taken_at
 taken_parts op place kinds live f g u v x y z = rw (z, x, y, u, v, f, g)
 
--- the bit of a letter
-bit-fits : ℕ → Bool
-bit-fits k = eqb (1 * 2 ^ k % 4294967296) (2 ^ k) && ltb (1 * 2 ^ k % 4294967296) 4096
-
-pub shifted : (k : ℕ) → k < 12 → (1 * 2 ^ k % 4294967296 ≡ 2 ^ k) × (1 * 2 ^ k % 4294967296 < 4096)
-unfolding bit-fits
-shifted k h =
-    let a : Bool = eqb (1 * 2 ^ k % 4294967296) (2 ^ k) in
-    let b : Bool = ltb (1 * 2 ^ k % 4294967296) 4096 in
-    let t : T (a && b) = below bit-fits 12 tt k h in
-    (eqb→eq (1 * 2 ^ k % 4294967296) (2 ^ k) (T-left a b t), ltb→lt (1 * 2 ^ k % 4294967296) 4096 (T-right a b t))
-
 -- a word of a kind
 pub kinds_by : (w : List ℕ) {k : ℕ} → OfKind (word_reads w) k → mask (kind_reads k) ≡ word_kinds w
 unfolding word_kinds
@@ -100,29 +87,29 @@ module _ (w : List ℕ) where
       go true e = cc
       go false e = refl
 
-  abbrev lettered_by : ℕ → ℕ → Option Lettered
-  lettered_by k n = Some (record { place = k; index = n })
-
-  abbrev place_in : Option Lettered → ℕ
-  place_in None = 12
-  place_in (Some l) = l.place
-
   abbrev first : Letter
   first = letter_of (head_or 0 w)
 
-  some-letter : {k n : ℕ} → lettered_by k n ≡ indexed_of w → (is_indexed w first ≡ true) × (k ≡ letter_place first)
+  abbrev lettered_by : Letter → ℕ → Option (Letter × ℕ)
+  lettered_by l n = Some (l, n)
+
+  abbrev letter_in : Option (Letter × ℕ) → Letter
+  letter_in None = A
+  letter_in (Some x) = x.0
+
+  some-letter : {l : Letter} {n : ℕ} → lettered_by l n ≡ indexed_of w → (is_indexed w first ≡ true) × (l ≡ first)
   unfolding indexed_of
-  some-letter {k} {n} e = go (is_indexed w first) e
+  some-letter {l} {n} e = go (is_indexed w first) e
     where
-      go : (t : Bool) → lettered_by k n ≡ cond t (lettered_by (letter_place first) (amount 0 (drop 1 w))) None → (t ≡ true) × (k ≡ letter_place first)
-      go true e = (refl, ap place_in e)
+      go : (t : Bool) → lettered_by l n ≡ cond t (lettered_by first (amount 0 (drop 1 w))) None → (t ≡ true) × (l ≡ first)
+      go true e = (refl, ap letter_in e)
       go false e = (cc, cc)
 
   no-letter : None ≡ indexed_of w → is_indexed w first ≡ false
   unfolding indexed_of
   no-letter e = go (is_indexed w first) e
     where
-      go : (t : Bool) → None ≡ cond t (lettered_by (letter_place first) (amount 0 (drop 1 w))) None → t ≡ false
+      go : (t : Bool) → None ≡ cond t (lettered_by first (amount 0 (drop 1 w))) None → t ≡ false
       go true e = cc
       go false e = refl
 
@@ -138,10 +125,10 @@ module _ (w : List ℕ) where
     class-kind c = kinds_by w (of-class w e c)
 
     module _ (c : is_class w ≡ false) where
-      pub letter-kind : {k n : ℕ} → lettered_by k n ≡ indexed_of w → (k < 12) × (229376 + 2 ^ k ≡ word_kinds w)
+      pub letter-kind : {l : Letter} {n : ℕ} → lettered_by l n ≡ indexed_of w → 229376 + 2 ^ letter_place l ≡ word_kinds w
       letter-kind h =
           let s = some-letter h in
-          rw s.1 (place-small first, letter-set (letter_place first) (place-small first) ∙ kinds_by w (of-letter w e c s.0))
+          rw s.1 (letter-set (letter_place first) (place-small first) ∙ kinds_by w (of-letter w e c s.0))
 
       pub name-kind : None ≡ indexed_of w → 229376 ≡ word_kinds w
       name-kind h = kinds_by w (of-name w e c (no-letter h))

@@ -5,6 +5,8 @@ use Rattle.std.proofs.Math.Bool.{and-false, or-true}
 use mathlib.Core.List.{List, [], ◌∷◌, map}
 use Rattle.std.proofs.Math.Dec.{T}
 use Rattle.std.proofs.lemmas.Bool.{lt-leb}
+use lib.Ieee.Bits.{is_true}
+use Rattle.std.specs.Bool.{passes}
 use Rattle.characters.specs.Characters.{is_capital, is_digit}
 use Rattle.language.specs.Letters.{Letter, letters, letter_code, indices, use_of}
 use Rattle.language.specs.Letters.Letter.{A, B, C, D, E, I, N, P, Q, T as T', Y, Z}
@@ -60,21 +62,14 @@ letter_is l = every-letter (λ m. is_capital (letter_code m)) tt l
 pub place-small : (l : Letter) → letter_place l < 12
 place-small l = ltb→lt (letter_place l) 12 (every-letter (λ m. ltb (letter_place m) 12) tt l)
 
-T_true : (b : Bool) → T b → b ≡ true
-T_true true h = refl
-T_true false h = absurd h
-
-holds : {b : Bool} → b ≡ true → T b
-holds e = subst T (sym e) tt
-
 abbrev continues : ℕ → Bool
 continues x = is_capital x || is_digit x
 
 letter-continues : (x : ℕ) → T (is_capital x) → T (continues x)
-letter-continues x h = rw (T_true (is_capital x) h) tt
+letter-continues x h = rw (is_true (is_capital x) h) tt
 
 digit-continues : (x : ℕ) → T (is_digit x) → T (continues x)
-digit-continues x h = rw (T_true (is_digit x) h, or-true (is_capital x)) tt
+digit-continues x h = rw (is_true (is_digit x) h, or-true (is_capital x)) tt
 
 all-each : (p q : ℕ → Bool) → ((x : ℕ) → T (p x) → T (q x)) → (w : List ℕ) → T (all p w) → T (all q w)
 all-each p q f [] h = tt
@@ -175,11 +170,11 @@ module _ (w : List ℕ) where
 
   module _ (e : identifier w ≡ true) where
     no_number : number w ≡ false
-    no_number = rw (name-number w (holds e))
+    no_number = rw (name-number w (passes _ e))
 
     pub of-class : is_class w ≡ true → OfKind (word_reads w) 13
     of-class c =
-        record { small = lit< tt; forms_read = plain false true true no_number c e (λ l. denied (is_indexed w l) (λ h. indexed-class l w h (holds c))) }
+        record { small = lit< tt; forms_read = plain false true true no_number c e (λ l. denied (is_indexed w l) (λ h. indexed-class l w h (passes _ c))) }
 
     module _ (c : is_class w ≡ false) where
       pub of-name : is_indexed w first ≡ false → OfKind (word_reads w) 15
@@ -191,11 +186,11 @@ module _ (w : List ℕ) where
           let i = T-right (eqb (head_or 0 w) (letter_code l)) (is_index (indices (use_of l).var) (drop 1 w)) h in
           record {
             small = omega (arith, place-small l);
-            forms_read = shaped w ∙ rw (no_number, c, e, b) (one-letter l (λ m. is_index m (drop 1 w)) (T_true (is_index (indices (use_of l).var) (drop 1 w)) i));
+            forms_read = shaped w ∙ rw (no_number, c, e, b) (one-letter l (λ m. is_index m (drop 1 w)) (is_true (is_index (indices (use_of l).var) (drop 1 w)) i));
           }
 
       pub of-letter : is_indexed w first ≡ true → OfKind (word_reads w) (letter_place first)
-      of-letter h = lettered first (holds h)
+      of-letter h = lettered first (passes _ h)
 
   -- every word is of some kind
   name-kind : identifier w ≡ true → (c i : Bool) → is_class w ≡ c → is_indexed w first ≡ i → (k : ℕ) × OfKind (word_reads w) k

@@ -6,37 +6,28 @@ ghost use Rattle.std.specs.Int.Bits.{bit_and};
 ghost use Rattle.std.specs.Option.{option_map};
 ghost use Rattle.forms.specs.Forms.{Sets, SetsOf, sets, nothing, set_at, most_of, least_of, calls, ends, only};
 ghost use Rattle.forms.specs.Letters.{letter};
+ghost use Rattle.table.specs.Denote.{letter_of};
+ghost use Rattle.words.specs.Below.Table.{letter_place};
 ghost use Rattle.language.specs.Instructions.{operation, is_call, is_end};
 ghost use Rattle.language.specs.Operators.{op_by};
 ghost use Rattle.forms.specs.Reading.{if_form, if_taken, read_as, shared, taken, taken_at};
 
 use language::Operator;
+use table::Letter;
 
-// What an argument is read as: one of the indexed letters, a number, a class, a text, a label, a switch NAZWA or INDEKS, or nothing.
+// What an argument is read as: an indexed letter, a number, a class, a text, a label, or a switch NAZWA or INDEKS.
 #[derive(Clone, Copy, Debug, PartialEq, Eq)]
 pub enum Form {
-    A,
-    B,
-    C,
-    D,
-    E,
-    I,
-    N,
-    P,
-    Q,
-    T,
-    Y,
-    Z,
+    Letter(Letter),
     Number,
     Class,
     Text,
     Label,
     Nazwa,
     Indeks,
-    Nothing,
 }
 
-// A set of forms, a bit for each.
+// A set of forms and of nothing, a bit for each: the letters by their places among the twelve, then the others.
 #[derive(Clone, Copy, Debug, PartialEq, Eq)]
 pub struct Forms {
     bits: u32,
@@ -46,79 +37,79 @@ impl Forms {
     pub const EMPTY: Forms = Forms { bits: 0 };
 
     pub const A: Forms = Forms {
-        bits: 1 << Form::A as u32,
+        bits: 1 << Letter::A as u32,
     };
 
     pub const B: Forms = Forms {
-        bits: 1 << Form::B as u32,
+        bits: 1 << Letter::B as u32,
     };
 
     pub const C: Forms = Forms {
-        bits: 1 << Form::C as u32,
+        bits: 1 << Letter::C as u32,
     };
 
     pub const D: Forms = Forms {
-        bits: 1 << Form::D as u32,
+        bits: 1 << Letter::D as u32,
     };
 
     pub const E: Forms = Forms {
-        bits: 1 << Form::E as u32,
+        bits: 1 << Letter::E as u32,
     };
 
     pub const I: Forms = Forms {
-        bits: 1 << Form::I as u32,
+        bits: 1 << Letter::I as u32,
     };
 
     pub const N: Forms = Forms {
-        bits: 1 << Form::N as u32,
+        bits: 1 << Letter::N as u32,
     };
 
     pub const P: Forms = Forms {
-        bits: 1 << Form::P as u32,
+        bits: 1 << Letter::P as u32,
     };
 
     pub const Q: Forms = Forms {
-        bits: 1 << Form::Q as u32,
+        bits: 1 << Letter::Q as u32,
     };
 
     pub const T: Forms = Forms {
-        bits: 1 << Form::T as u32,
+        bits: 1 << Letter::T as u32,
     };
 
     pub const Y: Forms = Forms {
-        bits: 1 << Form::Y as u32,
+        bits: 1 << Letter::Y as u32,
     };
 
     pub const Z: Forms = Forms {
-        bits: 1 << Form::Z as u32,
+        bits: 1 << Letter::Z as u32,
     };
 
     pub const NUMBER: Forms = Forms {
-        bits: 1 << Form::Number as u32,
+        bits: Self::Z.bits << 1,
     };
 
     pub const CLASS: Forms = Forms {
-        bits: 1 << Form::Class as u32,
+        bits: Self::NUMBER.bits << 1,
     };
 
     pub const TEXT: Forms = Forms {
-        bits: 1 << Form::Text as u32,
+        bits: Self::CLASS.bits << 1,
     };
 
     pub const LABEL: Forms = Forms {
-        bits: 1 << Form::Label as u32,
+        bits: Self::TEXT.bits << 1,
     };
 
     pub const NAZWA: Forms = Forms {
-        bits: 1 << Form::Nazwa as u32,
+        bits: Self::LABEL.bits << 1,
     };
 
     pub const INDEKS: Forms = Forms {
-        bits: 1 << Form::Indeks as u32,
+        bits: Self::NAZWA.bits << 1,
     };
 
     pub const NOTHING: Forms = Forms {
-        bits: 1 << Form::Nothing as u32,
+        bits: Self::INDEKS.bits << 1,
     };
 
     // What an identifier reads as, besides a class or an indexed letter.
@@ -213,13 +204,12 @@ impl Forms {
             + Self::T.bits,
     };
 
-    // The set of the letter at a place among the twelve.
-    pub fn letter(place: u8) -> Forms
-        requires { place < 12 }
-        ensures { (result.bits ≡ 2 ^ place) × (result.bits < 4096) }
+    // The set of a letter.
+    pub fn letter(letter: Letter) -> Forms
+        ensures { (result.bits ≡ 2 ^ letter_place (letter_of letter)) × (result.bits < 4096) }
     {
         Forms {
-            bits: 1u32 << place,
+            bits: 1u32 << letter as u32,
         }
     }
 
@@ -254,18 +244,18 @@ impl Forms {
         ensures { option_map letter result ≡ if_form (only self.bits) }
     {
         Some(match self {
-            Self::A => Form::A,
-            Self::B => Form::B,
-            Self::C => Form::C,
-            Self::D => Form::D,
-            Self::E => Form::E,
-            Self::I => Form::I,
-            Self::N => Form::N,
-            Self::P => Form::P,
-            Self::Q => Form::Q,
-            Self::T => Form::T,
-            Self::Y => Form::Y,
-            Self::Z => Form::Z,
+            Self::A => Form::Letter(Letter::A),
+            Self::B => Form::Letter(Letter::B),
+            Self::C => Form::Letter(Letter::C),
+            Self::D => Form::Letter(Letter::D),
+            Self::E => Form::Letter(Letter::E),
+            Self::I => Form::Letter(Letter::I),
+            Self::N => Form::Letter(Letter::N),
+            Self::P => Form::Letter(Letter::P),
+            Self::Q => Form::Letter(Letter::Q),
+            Self::T => Form::Letter(Letter::T),
+            Self::Y => Form::Letter(Letter::Y),
+            Self::Z => Form::Letter(Letter::Z),
             Self::NUMBER => Form::Number,
             Self::CLASS => Form::Class,
             Self::TEXT => Form::Text,

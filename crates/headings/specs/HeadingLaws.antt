@@ -12,7 +12,7 @@ use Rattle.statements.specs.CheckLaws.{worst-stop, worst-item, worse-clear, wors
 use Rattle.statements.specs.Faults.{lower}
 use Rattle.statements.specs.FaultLaws.{fault-both}
 use Rattle.heads.specs.Heads.{following, opens, head_keyword, Headed}
-use Rattle.heads.specs.HeadLaws.{ended-by, ended-on, lower-clear, lower-assoc, told-asked, told-opens, behind-by, no-keyword}
+use Rattle.heads.specs.HeadLaws.{ended-by, ended-on, lower-clear, lower-assoc, told-alike, told-opens, behind-by, no-keyword}
 use Rattle.heads.specs.declared.Head.{Head}
 use Rattle.language.specs.Program.{identifier}
 use Rattle.lexer.specs.Tokens.{item_of, colon_of, NextToken}
@@ -32,7 +32,8 @@ use Rattle.syntax.specs.Statements as Spec
 use Rattle.syntax.specs.Statements.Keyword.{SEKCJA, KONS, KONP}
 use Rattle.syntax.specs.Verdict.{lowest}
 use Rattle.words.specs.Keywords.{told}
-use Rattle.headings.specs.Headings.{is_kons, is_konp, Tails, follows, no_items, Restable, from_first, Rests, fault_first, name_fault, right_first, name_by, after_faults, AfterTold}
+use Rattle.statements.specs.Places.{InText}
+use Rattle.headings.specs.Headings.{is_kons, is_konp, Tails, follows, no_items, from_first, Rests, fault_first, name_fault, right_first, name_by, after_faults, AfterTold}
 use Rattle.headings.specs.declared.Rest.{Rest}
 
 -- ---- places at fault
@@ -56,7 +57,7 @@ pub record Reading (s : List ℕ) (f : Token) (w : Verdict) (more : Fault) (v : 
   pub more_is : lower more (fault_of (places (statement_at s i))) ≡ fault_of (places (statement_at s f.next))
   pub worst_is : worse v (worst (statement_at s i)) ≡ worse w (worst (statement_at s f.next))
 
-pub reads_first : {s : List ℕ} {f : Token} {w : Verdict} → Restable s f → Reading s f w None w f.next
+pub reads_first : {s : List ℕ} {f : Token} {w : Verdict} → InText s f → Reading s f w None w f.next
 reads_first h = record { within = begins-within h.stands.most; more_is = refl; worst_is = refl }
 
 module _ {s : List ℕ} {f : Token} {w : Verdict} {more : Fault} {v : Verdict} {i : ℕ} {t : Token} (r : Reading s f w more v i) (k : NextToken s i t) where
@@ -83,7 +84,7 @@ module _ {s : List ℕ} {f : Token} {w : Verdict} {more : Fault} {v : Verdict} {
 
 -- ---- what follows an operator
 
-module _ {s : List ℕ} {t : Token} {w : Verdict} (h : Restable s t) where
+module _ {s : List ℕ} {t : Token} {w : Verdict} (h : InText s t) where
   pub rests-alone : stops t.sort ≡ true → Rests s t w (no_items t w)
   unfolding worst
   rests-alone z =
@@ -208,10 +209,10 @@ module _ {s : List ℕ} {n : ℕ} {h : Head} (g : Headed s n h) where
       go false = refl
 
   pub kons-told : same_keyword KONS (keyword_in x) ≡ is_kons (head_keyword h)
-  kons-told = sym (ap is_kons g.keyword ∙ told-asked (eqb 3) refl (keyword_in x))
+  kons-told = sym (ap is_kons g.keyword ∙ told-alike (eqb 3) refl (keyword_in x))
 
   pub konp-told : same_keyword KONP (keyword_in x) ≡ is_konp (head_keyword h)
-  konp-told = sym (ap is_konp g.keyword ∙ told-asked (eqb 4) refl (keyword_in x))
+  konp-told = sym (ap is_konp g.keyword ∙ told-alike (eqb 4) refl (keyword_in x))
 
   -- KONP is an operator
   konp-place : is_konp (head_keyword h) ≡ true → operator_at x ≡ h.op.at

@@ -1,5 +1,5 @@
 -- What follows SEKCJA, KONS or KONP, and what the functions on it ask and promise.
-use Rattle.std.specs.Prelude.{◌≡◌, Bool, true, false, cond, ◌&&◌, List, [], ◌∷◌, ℕ, ◌+◌, ◌≤◌, length, drop}
+use Rattle.std.specs.Prelude.{◌≡◌, Bool, true, false, cond, ◌&&◌, List, [], ◌∷◌, ℕ, ◌+◌, ◌≤◌, drop}
 use Rattle.heads.specs.Below.DraftsMarks.{mark_of, word_by, Marked}
 use Rattle.statements.proofs.Ends.{Within}
 use Rattle.statements.specs.Checks.{worst}
@@ -32,10 +32,6 @@ follows s t = cond (stops t.sort) [] (statement_at s t.next)
 
 abbrev pub no_items : Token → Verdict → Rest
 no_items t w = record { first = None; more = None; worst = w; next = following t }
-
-pub record Restable (s : List ℕ) (t : Token) : Type 0 where
-  pub low : length s ≤ limit.text
-  pub stands : Stands s t
 
 -- the items of a statement from the item f on
 pub record Tails (s : List ℕ) (f : Token) (w : Verdict) (r : Rest) : Type 0 where

@@ -4,9 +4,11 @@
 ghost use Rattle.std.specs.Prelude.{◌≡◌};
 ghost use Rattle.language.specs.Program.{identifier};
 ghost use Rattle.lists.specs.Lists.{bytes_equal};
-ghost use Rattle.headings.specs.Headings.{is_kons, is_konp, Tails, no_items, Restable, Rests, name_fault, FirstIn, FirstLow, mark_first, right_first, NameIn, name_by, Nameable, FirstTold, FollowsTold};
+ghost use Rattle.statements.specs.Places.{InText};
+ghost use Rattle.headings.specs.Headings.{is_kons, is_konp, Tails, no_items, Rests, name_fault, FirstIn, FirstLow, mark_first, right_first, name_by, Nameable, FirstTold, FollowsTold};
 
-use heads::{Head, following, is_name, mark, opens};
+use drafts::{mark, word_of};
+use heads::{Head, following, is_name, opens};
 use lexer::{Token, next_item};
 use scanner::Sort;
 use statements::{Fault, Verdict, lower, stops, worse};
@@ -14,7 +16,7 @@ use words::Keyword;
 
 // The first item, if there is one; the place of an item after it; questions 14, 15 and 16 of all items so far; where the next statement begins, unless
 // this is the last.
-#[derive(Clone, Copy)]
+#[derive(Clone, Copy, Debug, PartialEq, Eq)]
 pub struct Rest {
     pub first: Option<Token>,
     pub more: Fault,
@@ -37,9 +39,10 @@ pub fn is_konp(k: Option<Keyword>) -> bool
 }
 
 // The items of a statement from its item `first` on.
-// Each turn goes on behind the item that it read, so there is no range to run over.
+// Each turn goes on behind the item that it read, so there is no range to run over; and no iterator over the items, which would end without the token
+// that ends the statement, and `next` is asked of that.
 fn read_tail(text: &[u8], first: Token, worst: Verdict) -> Rest
-    requires { Restable text.now first }
+    requires { InText text.now first }
     ensures { Tails text.now first worst result }
 {
     let mut more = None;
@@ -75,7 +78,7 @@ fn no_items(t: Token, worst: Verdict) -> Rest
 
 // What follows the token `t`: the operator of a statement, or what ends it.
 pub fn read_rest(text: &[u8], t: Token, worst: Verdict) -> Rest
-    requires { Restable text.now t }
+    requires { InText text.now t }
     ensures { Rests text.now t worst result }
 {
     if stops(t.sort) {
@@ -112,20 +115,17 @@ fn is_name_first(text: &[u8], first: Option<Token>) -> bool
 
 // The name that has a mark; nothing without one.
 fn name_of(text: &[u8], mark: Option<u32>) -> &[u8]
-    requires { NameIn text.now mark }
     ensures { result.now ≡ name_by text.now mark }
 {
-    let Some(m) = mark else {
-        return &text[..0];
-    };
-    let at = m as usize / 64;
-    let len = m as usize % 64;
-    &text[at..at + len]
+    match mark {
+        Some(m) => word_of(text, m as usize),
+        None => &text[..0],
+    }
 }
 
 // Whether the first item is the name that has a mark.
 fn is_named(text: &[u8], first: Option<Token>, mark: Option<u32>) -> bool
-    requires { Nameable text.now first mark }
+    requires { FirstIn text.now first }
     ensures { result ≡ right_first text.now (bytes_equal (name_by text.now mark)) first }
 {
     let Some(t) = first else {

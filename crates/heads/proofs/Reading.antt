@@ -1,6 +1,6 @@
 -- The unread rest of a text, from token to token, up to the operator of its first statement.
 use mathlib.Core.Path.{◌≡◌, refl, ap, sym, subst, ◌∙◌}
-use mathlib.Core.Bool.{Bool, true, false, cond}
+use mathlib.Core.Bool.{Bool, true, false, cond, ◌||◌}
 use mathlib.Core.List.{List, [], ◌∷◌, ◌++◌, map, append_assoc, append-nil}
 use Prim.Native.Nat.{ℕ, ◌+◌, ◌≤◌, ◌<◌}
 use native.Mathlib.Nat.{add-zero}
@@ -11,19 +11,22 @@ use lib.ListN.{length, take, drop, set, length-set}
 use lib.Seq.{take-suc-set, take-set-le}
 use borrow.Author.Tests.{eq-eqb, ne_eqb, eqb-true, eqb-false}
 use Rattle.drafts.specs.Marks.{mark, mark_of}
+use Rattle.statements.specs.CheckLaws.{worse-clear}
 use Rattle.statements.specs.Checks.{token_verdict}
 use Rattle.statements.specs.Faults.{lower}
 use Rattle.lists.specs.Lists.{keep}
 use Rattle.lexer.specs.declared.Token.{Token}
 use Rattle.lexer.specs.MovedLaws.{shift, colon-most, item-moved, moved-next}
-use Rattle.lexer.specs.Tokens.{item_of, NextToken, Movable, moved}
+use Rattle.lexer.specs.Tokens.{chars_by, chars_of, item_of, Stands, NextToken, Movable, moved}
 use Rattle.statements.specs.Faults.{Fault, Verdict, worse}
-use Rattle.std.specs.Prelude.{Option, None, Ok}
+use Rattle.std.specs.Prelude.{Option, None, Some, Ok}
+use Rattle.std.proofs.Common.{inl, inr}
 use Rattle.statements.specs.StatementAt.{statement_at, stops, fault_of}
-use Rattle.statements.specs.StatementLaws.{goes, at-stop, at_item, on}
+use Rattle.statements.specs.StatementLaws.{goes, stopped, at-stop, at_item, on}
 use Rattle.scanner.specs.Below.Items.{Item, is, same_sort}
-use Rattle.scanner.specs.Below.Items.Sort.{word}
+use Rattle.scanner.specs.Below.Items.Sort.{word, text, wrong}
 use Rattle.scanner.specs.Below.Statements.{keyword_of, front, labels_in, is_name}
+use Rattle.scanner.specs.declared.Sort.{Sort}
 use Rattle.scanner.specs.Sorts.{sort_in}
 use Rattle.words.specs.declared.Known.{Known}
 use Rattle.heads.specs.Heads.{known_item, head_with, operates, MarksPut, Headable, Heads}
@@ -130,6 +133,19 @@ same_place n j = go (eqb j 0) refl
     go true e = let q = eqb-true j 0 e in sym (eq-eqb (n + j) n (omega arith))
     go false e = sym (ne_eqb (n + j) n (λ q. eqb-false j 0 e (omega arith)))
 
+stop_told : {s : List ℕ} (n : ℕ) {t : Token} → Stands s t → stops t.sort ≡ true → (token_verdict (moved n t) ≡ Ok tt) × (known_item (item_of s t) ≡ None)
+unfolding chars_of
+stop_told {s} n {t} h z = elim (stopped t.sort z) [ inl e ↦ by None e refl refl refl refl | inr e ↦ by (Some Sort.End) e refl refl refl refl ]
+  where
+    by : (k : Option Sort) → t.sort ≡ k → chars_by k s t ≡ [] → same_sort wrong (sort_in k) ≡ false → same_sort text (sort_in k) ≡ false → same_sort word (sort_in k) ≡ false
+        → (token_verdict (moved n t) ≡ Ok tt) × (known_item (item_of s t) ≡ None)
+    by k e c x y q =
+        let none : t.len ≡ 0 = sym h.count ∙ ap length (ap (λ i. chars_by i s t) e ∙ c) in
+        let x' : same_sort wrong (sort_in t.sort) ≡ false = ap (λ i. same_sort wrong (sort_in i)) e ∙ x in
+        let y' : same_sort text (sort_in t.sort) ≡ false = ap (λ i. same_sort text (sort_in i)) e ∙ y in
+        let q' : same_sort word (sort_in t.sort) ≡ false = ap (λ i. same_sort word (sort_in i)) e ∙ q in
+        (rw (x', y', none) refl, rw q' refl)
+
 module _ {r : List ℕ} {n : ℕ} {ms : List ℕ} {count j f : ℕ} {fault : Fault} {w : Verdict} {ms' : List ℕ} {c : ℕ}
     (u : Reading r n ms count j f fault w ms' c) {t : Token} (k : NextToken r j t) where
   pub movable : Movable n t
@@ -165,13 +181,21 @@ module _ {r : List ℕ} {n : ℕ} {ms : List ℕ} {count j f : ℕ} {fault : Fau
       item-is = ap (item_of s) g ∙ item-moved s n h t
 
     module _ {f' : ℕ} (f_is : f' ≡ cond (eqb j 0) o.at f) where
-      pub none_read : stops o.sort ≡ true → Heads r n count ms ms' (head_with f' fault c w o None)
+      none_read : stops o.sort ≡ true → Heads r n count ms ms' (head_with f' fault c w o None)
       none_read z s le h =
           let k' = there s le h in
           (no-head (u.is s le h).0 k' (same_place n j) f_is z, all-put (u.is s le h).1 k' u.same (no_front (at-stop k' z)))
 
+      module _ {w' : Verdict} (w-is : w' ≡ worse w (token_verdict o)) where
+        -- what ends a statement has no fault, and is no keyword
+        stop-read : stops o.sort ≡ true → {v : Option Known} → v ≡ known_item (item_of r t) → Heads r n count ms ms' (head_with f' fault c w' o v)
+        stop-read z e =
+            let q = stop_told n k.stands (sym (ap (λ (x : Token). stops x.sort) g) ∙ z) in
+            let clear : token_verdict o ≡ Ok tt = ap token_verdict g ∙ q.0 in
+            rw (w-is ∙ ap (worse w) clear ∙ worse-clear w, e ∙ q.1) (none_read z)
+
       module _ (z : stops o.sort ≡ false) {w' : Verdict} (w-is : w' ≡ worse w (token_verdict o)) where
-        pub head_read : operates o ≡ true → {v : Option Known} → v ≡ known_item (item_of r t) → Heads r n count ms ms' (head_with f' fault c w' o v)
+        head_read : operates o ≡ true → {v : Option Known} → v ≡ known_item (item_of r t) → Heads r n count ms ms' (head_with f' fault c w' o v)
         head_read y e s le h =
             let k' = there s le h in
             let v-is = e ∙ sym (ap known_item (item-is s le h) ∙ known-shift n (item_of r t)) in
@@ -196,3 +220,8 @@ module _ {r : List ℕ} {n : ℕ} {ms : List ℕ} {count j f : ℕ} {fault : Fau
             few-by : (b : Bool) → c' ≡ c + cond b 1 0 → c' ≤ n + t.next
             few-by true q = omega (arith, u.few, goes_on z)
             few-by false q = omega (arith, u.few, goes_on z)
+
+      module _ {w' : Verdict} (w-is : w' ≡ worse w (token_verdict o)) where
+        pub head_done : (stops o.sort || operates o) ≡ true → {v : Option Known} → v ≡ known_item (item_of r t) → Heads r n count ms ms' (head_with f' fault c w' o v)
+        head_done y {v} e =
+            elim (stops o.sort) as (λ b. stops o.sort ≡ b → (b || operates o) ≡ true → Heads r n count ms ms' (head_with f' fault c w' o v)) [ true ↦ λ z h. stop-read w-is z e | false ↦ λ z h. head_read z w-is h e ] refl y

@@ -1,7 +1,7 @@
 -- The head of a statement item by item.
 use Rattle.std.specs.Prelude.{◌≡◌, Bool, false, cond, not, ◌&&◌, ◌||◌, List, [], ◌∷◌, ℕ, ◌+◌, ◌≤◌, eqb, length, take, drop}
 use Rattle.std.proofs.Math.Path.{refl, ap}
-use Rattle.std.proofs.Common.{sym, ◌∙◌, true≢false, arith}
+use Rattle.std.proofs.Common.{sym, ◌∙◌, arith}
 use Rattle.std.proofs.Math.Bool.{true}
 use Rattle.lists.specs.Lists.{filled, if_any}
 use Rattle.lexer.specs.declared.Token.{Token}
@@ -20,7 +20,9 @@ use Rattle.scanner.specs.declared.Sort.{Sort}
 use Rattle.scanner.specs.Below.Statements.{keyword_number, same_keyword, keyword_of, is_operator, front, behind, operator, keyword_in, rest}
 use Rattle.scanner.specs.Below.Statements as Spec
 use Rattle.words.specs.declared.Keyword.{Keyword}
-use Rattle.words.specs.Keywords.{told, known}
+use Rattle.words.specs.Keywords.{keyword_by, told, known}
+use Rattle.words.specs.WordLaws.{keyword-item}
+use Rattle.words.proofs.KeywordLaws.{never-none}
 use Rattle.heads.specs.Heads.{following, EndedBy, known_item, operates, by_kind, opens, bars, instr_of, instr_by, head_keyword, Headed}
 use Rattle.std.proofs.lemmas.Option.{none-some}
 use Rattle.heads.specs.declared.Head.{Head}
@@ -44,6 +46,11 @@ pub place-if : (b : Bool) (at : ℕ) → then_some b at ≡ fault_of (cond b (at
 unfolding lowest
 place-if true at = refl
 place-if false at = refl
+
+pub place-unless : (b : Bool) (at : ℕ) → then_some (not b) at ≡ fault_of (cond b [] (at ∷ []))
+unfolding lowest
+place-unless true at = refl
+place-unless false at = refl
 
 -- where a statement ends
 some-not_none : (k : Option Sort) → is_some k ≡ not (is_none k)
@@ -73,27 +80,49 @@ no-number (Some Keyword.Konp) e = refl
 no-number (Some (Keyword.Switch b)) e = refl
 no-number (Some (Keyword.Instr o)) e = absurd (none-some _ e)
 
--- what is asked of a keyword's number, where it is asked alike whether there is none or an unknown one
-pub told-asked : (q : ℕ → Bool) → q 1 ≡ q 0 → (k : Spec.Keyword) → by_kind (q 0) (q 2) (q 3) (q 4) (λ goes_by_name. q 5) (λ o. q 6) (told k) ≡ q (keyword_number k)
-told-asked q e Spec.Keyword.none = refl
-told-asked q e Spec.Keyword.unknown = sym e
-told-asked q e Spec.Keyword.SEKCJA = refl
-told-asked q e Spec.Keyword.KONS = refl
-told-asked q e Spec.Keyword.KONP = refl
-told-asked q e (Spec.Keyword.switch goes_by_name) = refl
-told-asked q e (Spec.Keyword.instr op) = refl
+-- what is asked of a keyword's number: `told` tells nothing of none and of an unknown one, which are asked apart
+pub told-asked : (q : ℕ → Bool) (k : Spec.Keyword)
+    → cond (same_keyword Spec.Keyword.none k) (q 0) (by_kind (q 1) (q 2) (q 3) (q 4) (λ goes_by_name. q 5) (λ o. q 6) (told k)) ≡ q (keyword_number k)
+told-asked q Spec.Keyword.none = refl
+told-asked q Spec.Keyword.unknown = refl
+told-asked q Spec.Keyword.SEKCJA = refl
+told-asked q Spec.Keyword.KONS = refl
+told-asked q Spec.Keyword.KONP = refl
+told-asked q (Spec.Keyword.switch goes_by_name) = refl
+told-asked q (Spec.Keyword.instr op) = refl
+
+-- and where both are asked alike
+pub told-alike : (q : ℕ → Bool) → q 1 ≡ q 0 → (k : Spec.Keyword) → by_kind (q 0) (q 2) (q 3) (q 4) (λ goes_by_name. q 5) (λ o. q 6) (told k) ≡ q (keyword_number k)
+told-alike q e Spec.Keyword.none = refl
+told-alike q e Spec.Keyword.unknown = sym e
+told-alike q e Spec.Keyword.SEKCJA = refl
+told-alike q e Spec.Keyword.KONS = refl
+told-alike q e Spec.Keyword.KONP = refl
+told-alike q e (Spec.Keyword.switch goes_by_name) = refl
+told-alike q e (Spec.Keyword.instr op) = refl
 
 pub told-opens : (k : Spec.Keyword) → opens (told k) ≡ same_keyword Spec.Keyword.SEKCJA k
-told-opens k = told-asked (eqb 2) refl k
+told-opens k = told-alike (eqb 2) refl k
 
-pub told-bars : (k : Spec.Keyword) → same_keyword Spec.Keyword.none k ≡ false → bars (told k) ≡ (same_keyword Spec.Keyword.unknown k || same_keyword Spec.Keyword.SEKCJA k)
-told-bars Spec.Keyword.none e = absurd (true≢false e)
-told-bars Spec.Keyword.unknown e = refl
-told-bars Spec.Keyword.SEKCJA e = refl
-told-bars Spec.Keyword.KONS e = refl
-told-bars Spec.Keyword.KONP e = refl
-told-bars (Spec.Keyword.switch goes_by_name) e = refl
-told-bars (Spec.Keyword.instr op) e = refl
+pub told-bars : (k : Spec.Keyword) → (not (same_keyword Spec.Keyword.none k) && bars (told k)) ≡ (same_keyword Spec.Keyword.unknown k || same_keyword Spec.Keyword.SEKCJA k)
+told-bars Spec.Keyword.none = refl
+told-bars Spec.Keyword.unknown = refl
+told-bars Spec.Keyword.SEKCJA = refl
+told-bars Spec.Keyword.KONS = refl
+told-bars Spec.Keyword.KONP = refl
+told-bars (Spec.Keyword.switch goes_by_name) = refl
+told-bars (Spec.Keyword.instr op) = refl
+
+-- an item has a keyword, if an unknown one
+pub item-some : (i : Item) → same_keyword Spec.Keyword.none (keyword_of i) ≡ false
+item-some i = ap (same_keyword Spec.Keyword.none) (keyword-item i) ∙ go (is word i)
+  where
+    go : (b : Bool) → same_keyword Spec.Keyword.none (cond b (keyword_by i.chars) Spec.Keyword.unknown) ≡ false
+    go true = never-none i.chars
+    go false = refl
+
+pub item-bars : (i : Item) → bars (told (keyword_of i)) ≡ (same_keyword Spec.Keyword.unknown (keyword_of i) || same_keyword Spec.Keyword.SEKCJA (keyword_of i))
+item-bars i = ap (λ b. not b && bars (told (keyword_of i))) (sym (item-some i)) ∙ told-bars (keyword_of i)
 
 -- a token that is a word, and any other
 module _ (s : List ℕ) (t : Token) where
@@ -165,3 +194,17 @@ module _ {s : List ℕ} {n : ℕ} {h : Head} (g : Headed s n h) where
 
     pub rest-here : rest x ≡ statement_at s h.op.next
     rest-here = ap (drop 1) (behind-by false z)
+
+  -- the operator is none of a statement after the first; without one there is none to bar
+  pub head-bars : (not (stops h.op.sort) && bars (head_keyword h)) ≡ (same_keyword Spec.Keyword.unknown (keyword_in x) || same_keyword Spec.Keyword.SEKCJA (keyword_in x))
+  unfolding keyword_in
+  head-bars = go (stops h.op.sort) refl
+    where
+      barred : List Item → Bool
+      barred js = same_keyword Spec.Keyword.unknown (if_any Spec.Keyword.none keyword_of js) || same_keyword Spec.Keyword.SEKCJA (if_any Spec.Keyword.none keyword_of js)
+
+      go : (b : Bool) → stops h.op.sort ≡ b → (not b && bars (head_keyword h)) ≡ barred (behind x)
+      go true z = sym (ap barred (behind-by true z))
+      go false z =
+          ap bars (g.keyword ∙ ap (λ js. told (if_any Spec.Keyword.none keyword_of js)) (behind-by false z))
+          ∙ item-bars (item_of s h.op) ∙ sym (ap barred (behind-by false z))

@@ -1,14 +1,14 @@
 // The head of a statement: its labels and its operator.
 #![tactic(auto)]
 
-ghost use Rattle.std.specs.Prelude.{◌≡◌, cond, [], ◌∷◌, ◌≤◌};
-ghost use Rattle.drafts.specs.Marks.{mark_of};
+ghost use Rattle.std.specs.Prelude.{◌≡◌, cond, [], ◌∷◌};
 ghost use Rattle.lexer.specs.Tokens.{item_of, Stands};
 ghost use Rattle.statements.specs.StatementAt.{fault_of};
 ghost use Rattle.scanner.specs.Below.Statements.{is_name};
 ghost use Rattle.words.specs.Keywords.{keyword_known, is_english, is_own};
 ghost use Rattle.heads.specs.Heads.{following, known_item, operates, opens, bars, is_switch, is_by_name, instr_by, Headable, Heads};
 
+use drafts::mark;
 use language::Operator;
 use lexer::{Token, moved, next_item};
 use scanner::Sort;
@@ -18,7 +18,7 @@ use words::{Edition, Keyword, Known};
 // The place of the first item, or of what ends the statement; the first item in front of the operator that is no name; how many names there are with
 // its labels; questions 14, 15 and 16 of the items up to the operator; the operator, or the token that ends the statement; what is known of the operator, if
 // it is a keyword. The items after it are read from `op.next` on.
-#[derive(Clone, Copy)]
+#[derive(Clone, Copy, Debug, PartialEq, Eq)]
 pub struct Head {
     pub first: usize,
     pub fault: Fault,
@@ -44,7 +44,7 @@ impl Head {
 }
 
 // Whether a token is an operator, and does not stand in front of one.
-fn is_operator(t: Token) -> bool
+pub fn is_operator(t: Token) -> bool
     ensures { result ≡ operates t }
 {
     !(t.is(Sort::Colon) | t.colon.is_some())
@@ -118,16 +118,7 @@ fn name_fault(text: &[u8], t: Token, at: usize) -> Fault
     requires { Stands text.now t }
     ensures { result ≡ fault_of (cond (is_name (item_of text.now t)) [] (at ∷ [])) }
 {
-    if is_name(text, t) { None } else { Some(at) }
-}
-
-// A word's place and length in one number.
-// A number and no struct: marks stand in lent rows and in cells of the table, and a struct would be made of one and turned to one at each use.
-pub fn mark(at: usize, len: usize) -> u32
-    requires { (at ≤ 32768) × (len ≤ 32768) }
-    ensures { result ≡ mark_of at len }
-{
-    (at * 64 + len) as u32
+    (!is_name(text, t)).then_some(at)
 }
 
 // The place behind a token that ends a statement, unless the text ends with it.
@@ -140,7 +131,8 @@ pub fn following(t: Token) -> Option<usize>
 // The head of the statement with which the unread rest of a text begins, at place `n` of the text. The marks of its labels come behind the first `count`
 // names.
 // The whole row and a count: the questions on labels that come next read the marks before these too, by their indices in the row.
-// Each turn goes on behind the item that it read, so there is no range to run over.
+// Each turn goes on behind the item that it read, so there is no range to run over; and no iterator over the items, since the head holds the operator or
+// the token that ends the statement, at which such a walk would end without it.
 pub fn read_head(rest: &[u8], n: usize, names: &mut [u32], count: usize) -> Head
     requires { Headable rest.now n names.old count }
     ensures { Heads rest.now n count names.old names.new result }
@@ -152,18 +144,8 @@ pub fn read_head(rest: &[u8], n: usize, names: &mut [u32], count: usize) -> Head
     let mut worst = Ok(());
     loop {
         let o = moved(t, n);
-        if stops(o.sort) {
-            return Head {
-                first,
-                fault,
-                names: c,
-                worst,
-                op: o,
-                known: None,
-            };
-        }
         worst = worse(worst, o);
-        if is_operator(o) {
+        if stops(o.sort) | is_operator(o) {
             return Head {
                 first,
                 fault,

@@ -11,7 +11,8 @@ use Rattle.drafts.specs.Marks.{mark, place_by}
 use Rattle.statements.specs.FaultLaws.{fault-both}
 use Rattle.statements.specs.Faults.{lower}
 use Rattle.heads.specs.Heads.{own_item, bars, is_switch, head_keyword, Headed}
-use Rattle.heads.specs.HeadLaws.{lower-clear, told-bars, behind-by, no-keyword, no_operator, operator-here}
+use Rattle.std.specs.Bool.{then_some}
+use Rattle.heads.specs.HeadLaws.{item-bars, behind-by, no-keyword, no_operator, operator-here}
 use Rattle.heads.specs.declared.Head.{Head}
 use Rattle.language.specs.Limits as limit
 use Rattle.layout.specs.Bounds.{Each}
@@ -26,7 +27,6 @@ use Rattle.syntax.specs.Questions.{operator_faults, label_faults}
 use Rattle.syntax.specs.Statements.{by_keyword, same_keyword, keyword_of, own, front, operator, keyword_in, is_name}
 use Rattle.syntax.specs.Statements as Spec
 use Rattle.syntax.specs.Verdict.{lowest}
-use Rattle.words.proofs.KeywordLaws.{never-none}
 use Rattle.words.specs.Keywords.{keyword_by, told, is_own}
 use Rattle.judging.specs.Judging.{is_barred}
 use Rattle.words.specs.WordLaws.{keyword-item}
@@ -49,24 +49,11 @@ places-back (l ∷ ls) (h, hs) = rw (place-back l.at (length l.chars) (omega (ar
 abbrev barred : Bool → Item → Bool
 barred english i = same_keyword Spec.Keyword.unknown (keyword_of i) || same_keyword Spec.Keyword.SEKCJA (keyword_of i) || own (not english) i.chars
 
-or-both : (a b c : Bool) → (a || b || c) ≡ ((a || b) || c)
-or-both true b c = refl
-or-both false b c = refl
-
 item-barred : (english : Bool) (i : Item) → barred english i ≡ (bars (told (keyword_of i)) || own_item (not english) i)
 item-barred english i = go (is word i) refl
   where
-    some : is word i ≡ true → same_keyword Spec.Keyword.none (keyword_of i) ≡ false
-    some w = ap (same_keyword Spec.Keyword.none) (keyword-item i ∙ ap (λ b. cond b (keyword_by i.chars) Spec.Keyword.unknown) w) ∙ never-none i.chars
-
-    u : Bool
-    u = same_keyword Spec.Keyword.unknown (keyword_of i)
-
-    e : Bool
-    e = same_keyword Spec.Keyword.SEKCJA (keyword_of i)
-
     go : (b : Bool) → is word i ≡ b → barred english i ≡ (bars (told (keyword_of i)) || own_item (not english) i)
-    go true w = or-both u e (own (not english) i.chars) ∙ rw (told-bars (keyword_of i) (some w), w) refl
+    go true w = rw (item-bars i, w) refl
     go false w =
         let k : keyword_of i ≡ Spec.Keyword.unknown = keyword-item i ∙ ap (λ b. cond b (keyword_by i.chars) Spec.Keyword.unknown) w in
         rw k refl
@@ -83,7 +70,7 @@ module _ {s : List ℕ} {n : ℕ} {h : Head} (g : Headed s n h) where
     abbrev wrong : Bool
     wrong = is_barred english h
 
-    own_fault : (b : Bool) → stops h.op.sort ≡ b → fault_of (places (keep (barred english) (operator x))) ≡ cond wrong (Some h.op.at) None
+    own_fault : (b : Bool) → stops h.op.sort ≡ b → fault_of (places (keep (barred english) (operator x))) ≡ then_some wrong h.op.at
     unfolding keyword_in lowest
     own_fault true z = ap (λ os. fault_of (places (keep (barred english) os))) (no_operator g z) ∙ sym (rw z refl)
     own_fault false z =
@@ -94,22 +81,19 @@ module _ {s : List ℕ} {n : ℕ} {h : Head} (g : Headed s n h) where
         (item-barred english it ∙ ap (λ k. bars k || own_item (not english) it) (sym k) ∙ ap (λ (b : Bool). bars (head_keyword h) || b) (sym o))
         ∙ go (bars (head_keyword h) || is_own (not english) h.known) ∙ sym (rw z refl)
       where
-        go : (b : Bool) → fault_of (places (cond b (it ∷ []) [])) ≡ cond b (Some h.op.at) None
+        go : (b : Bool) → fault_of (places (cond b (it ∷ []) [])) ≡ then_some b h.op.at
         go true = refl
         go false = refl
 
-    both-faults : lower h.fault (cond wrong (Some h.op.at) None) ≡ fault_of (operator_faults english x)
+    both-faults : lower h.fault (then_some wrong h.op.at) ≡ fault_of (operator_faults english x)
     unfolding operator_faults
     both-faults =
-        ap (λ f. lower f (cond wrong (Some h.op.at) None)) g.fault_is
+        ap (λ f. lower f (then_some wrong h.op.at)) g.fault_is
         ∙ ap (lower (fault_of (places (keep (λ i. not (is_name i)) (front x))))) (sym (own_fault (stops h.op.sort) refl))
         ∙ sym (fault-both (places (keep (λ i. not (is_name i)) (front x))) (places (keep (barred english) (operator x))))
 
-    pub operator-barred : wrong ≡ true → {r : Fault} → r ≡ lower h.fault (Some h.op.at) → r ≡ fault_of (operator_faults english x)
-    operator-barred e f = f ∙ sym (ap (λ (b : Bool). lower h.fault (cond b (Some h.op.at) None)) e) ∙ both-faults
-
-    pub operator-known : wrong ≡ false → h.fault ≡ fault_of (operator_faults english x)
-    operator-known e = sym (lower-clear h.fault) ∙ sym (ap (λ (b : Bool). lower h.fault (cond b (Some h.op.at) None)) e) ∙ both-faults
+    pub operator-told : {b : Bool} {f r : Fault} → b ≡ wrong → f ≡ then_some b h.op.at → r ≡ lower h.fault f → r ≡ fault_of (operator_faults english x)
+    operator-told e f q = q ∙ ap (lower h.fault) (f ∙ ap (λ (b : Bool). then_some b h.op.at) e) ∙ both-faults
 
   -- 08
   abbrev asked : List Item → List ℕ

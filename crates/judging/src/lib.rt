@@ -21,11 +21,7 @@ fn is_barred(head: Head, edition: Edition) -> bool
 pub fn operator_fault(head: Head, edition: Edition) -> Fault
     ensures { OperatorFault head (is_english edition) result }
 {
-    if is_barred(head, edition) {
-        lower(head.fault, Some(head.op.at))
-    } else {
-        head.fault
-    }
+    lower(head.fault, is_barred(head, edition).then_some(head.op.at))
 }
 
 // Question 08, by the marks of the labels that wait for the statement and of its own.

@@ -10,7 +10,7 @@ use Rattle.layout.specs.Table.{all_entries}
 use Rattle.linking.proofs.Faults.{joined-clear}
 use Rattle.linking.specs.Resolving.{code_resolved, entries_resolved, Labelling}
 use Rattle.statements.specs.StatementAt.{fault_of}
-use Rattle.statements.specs.Faults.{Fault}
+use Rattle.statements.specs.Faults.{Fault, Verdict, decided, verdict_of}
 use Rattle.std.specs.Prelude.{None, Some}
 use Rattle.syntax.proofs.LoadLaws.{goes_on, decides}
 use Rattle.syntax.specs.Tables.{Tables}
@@ -19,7 +19,7 @@ use Rattle.syntax.specs.Verdict.Verdict.{yes, refuse}
 use Rattle.writing.specs.Writing.{HoldsProgram, Changes}
 use Rattle.linking.proofs.Relabelling.{linked-program, labelling}
 use Rattle.linking.specs.Linking.{Kept, Finds, Links, label_places, switch_places}
-use Rattle.statements.specs.declared.Question.TheVariants.{Label, Switch}
+use Rattle.statements.specs.declared.Refusal.{Refusal}
 use Rattle.std.specs.Prelude.{Ok, Err}
 
 clear : (ps : List ℕ) → None ≡ fault_of ps → ps ≡ []
@@ -34,16 +34,25 @@ at_fault : (n p : ℕ) (ps : List ℕ) (qs : List Question) → Some p ≡ fault
 at_fault n p [] qs e = absurd (let z : ◌≡◌ {A = ℕ} 0 1 = cc in omega arith)
 at_fault n p (q ∷ ps) qs e = ap (refuse n) (ap place_of e) ∙ sym (decides n q ps qs)
 
+-- where a question is decided: no at a place at fault, or yes
+refused-at : (n : ℕ) (r : Refusal) (f : Fault) → verdict_of (Err r) ≡ decided n f → (verdict_of (Err r) ≡ refuse n r.at) × (f ≡ Some r.at)
+refused-at n r None e = absurd (let z : ◌≡◌ {A = ℕ} 0 1 = cc in omega arith)
+refused-at n r (Some p) e = let q : p ≡ r.at = cc in (e ∙ ap (refuse n) q, ap Some q)
+
+pub none-at : (n : ℕ) (f : Fault) {v : Verdict} → v ≡ Ok tt → verdict_of v ≡ decided n f → f ≡ None
+none-at n None q e = refl
+none-at n (Some p) q e = absurd (let x = sym (ap verdict_of q) ∙ e in let z : ◌≡◌ {A = ℕ} 0 1 = cc in omega arith)
+
 both-clear : (n m : ℕ) (ps qs : List ℕ) → ps ≡ [] → qs ≡ [] → yes ≡ first_no (ask n ps ∷ ask m qs ∷ [])
 unfolding first_no
 both-clear n m ps qs e f =
     sym ((λ j. first_no (ask n (e j) ∷ ask m (f j) ∷ [])) ∙ goes_on n (ask m [] ∷ []) ∙ goes_on m [])
 
 module _ (s c sw en : List ℕ) where
-  pub no_label : {f : Fault} (p : ℕ) → Finds s c sw en label_places f → f ≡ Some p → Links s c sw en (Err (record { question = Label; at = p })) c
-  no_label p u e =
+  pub no_label : {f : Fault} (r : Refusal) → Finds s c sw en label_places f → verdict_of (Err r) ≡ decided 12 f → Links s c sw en (Err r) c
+  no_label r u e = let x = refused-at 12 r _ e in
       record {
-        verdict_is = λ lines t h. at_fault 12 p (label_places t) (ask 13 (switch_places t) ∷ []) (sym e ∙ u.is lines t h);
+        verdict_is = λ lines t h. x.0 ∙ at_fault 12 r.at (label_places t) (ask 13 (switch_places t) ∷ []) (sym x.1 ∙ u.is lines t h);
         holds = λ q. absurd (let z : ◌≡◌ {A = ℕ} 0 1 = cc in omega arith);
         beyond = refl;
       }
@@ -53,10 +62,10 @@ module _ (s c sw en : List ℕ) where
     declared : (lines : List ℕ) (t : Tables) → Tabled s lines t c sw en → label_places t ≡ []
     declared lines t h = clear (label_places t) (sym e ∙ u.is lines t h)
 
-    pub no_switch : {g : Fault} (p : ℕ) → Finds s c sw en switch_places g → g ≡ Some p → Links s c sw en (Err (record { question = Switch; at = p })) c
-    no_switch p v i =
+    pub no_switch : {g : Fault} (r : Refusal) → Finds s c sw en switch_places g → verdict_of (Err r) ≡ decided 13 g → Links s c sw en (Err r) c
+    no_switch r v i = let x = refused-at 13 r _ i in
         record {
-          verdict_is = λ lines t h. at_fault 13 p (switch_places t) [] (sym i ∙ v.is lines t h) ∙ sym (goes_on 12 (ask 13 (switch_places t) ∷ []))
+          verdict_is = λ lines t h. x.0 ∙ at_fault 13 r.at (switch_places t) [] (sym x.1 ∙ v.is lines t h) ∙ sym (goes_on 12 (ask 13 (switch_places t) ∷ []))
               ∙ ap (λ (ps : List ℕ). first_no (ask 12 ps ∷ ask 13 (switch_places t) ∷ [])) (sym (declared lines t h));
           holds = λ q. absurd (let z : ◌≡◌ {A = ℕ} 0 1 = cc in omega arith);
           beyond = refl;

@@ -9,6 +9,7 @@ use Rattle.statements.specs.Faults.{lower}
 use Rattle.language.specs.Program.{Program, no_instr, instr_at}
 use Rattle.lists.specs.Lists.{keep, each}
 use Rattle.statements.specs.Faults.{Fault}
+use Rattle.std.specs.Bool.{then_some}
 use Rattle.std.specs.Prelude.{None, Some}
 use Rattle.syntax.proofs.LoadLaws.{lowest-append}
 use Rattle.syntax.specs.Verdict.{lowest}
@@ -29,10 +30,13 @@ unfolding lowest
 joined-none None = refl
 joined-none (Some p) = refl
 
-pub joined-one : (f : Fault) (p : ℕ) → lower f (Some p) ≡ joined f (p ∷ [])
+-- where something is not so
+pub joined-unless : (f : Fault) (b : Bool) (p : ℕ) → lower f (then_some (not b) p) ≡ joined f (cond b [] (p ∷ []))
 unfolding lowest
-joined-one None p = refl
-joined-one (Some q) p = refl
+joined-unless None true p = refl
+joined-unless None false p = refl
+joined-unless (Some q) true p = refl
+joined-unless (Some q) false p = refl
 
 pub joined-join : (f : Fault) (xs ys : List ℕ) → joined (joined f xs) ys ≡ joined f (xs ++ ys)
 unfolding lowest

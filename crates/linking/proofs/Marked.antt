@@ -157,10 +157,7 @@ three p kind fs z (a ∷ []) l e = (λ j. e.0 j ++ (z j ++ z j)) ∙ sym (marked
 three p kind fs z (a ∷ b ∷ []) l e = (λ j. e.0 j ++ (e.1.0 j ++ z j)) ∙ sym (marked-cons fs a (b ∷ []) ∙ ap (λ (x : List ℕ). one fs a ++ x) (marked-cons fs b []))
 three p kind fs z (a ∷ b ∷ c ∷ []) l e =
     (λ j. e.0 j ++ (e.1.0 j ++ e.1.1.0 j))
-    ∙ sym (marked-cons fs a (b ∷ c ∷ []) ∙ ap (λ (x : List ℕ). one fs a ++ x) (marked-cons fs b (c ∷ []) ∙ ap (λ (x : List ℕ). one fs b ++ x) (marked-cons fs c [] ∙ tail (one fs c))))
-  where
-    tail : (x : List ℕ) → x ++ [] ≡ x
-    tail x = append-nil x
+    ∙ sym (marked-cons fs a (b ∷ c ∷ []) ∙ ap (λ (x : List ℕ). one fs a ++ x) (marked-cons fs b (c ∷ []) ∙ ap (λ (x : List ℕ). one fs b ++ x) (marked-cons fs c [] ∙ append-nil (one fs c))))
 three p kind fs z (a ∷ b ∷ c ∷ d ∷ bs) l e = absurd (omega (arith, l))
 
 module _ (lines : List ℕ) (n : ℕ) (p : Program) (texts : List (List ℕ)) (numbers : List ℤ) (w : Written) (h : SoundWritten n texts numbers w) where

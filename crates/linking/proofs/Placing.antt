@@ -8,6 +8,8 @@ use lib.Dec.{T}
 use lib.ListN.{length, get_or, set, take, drop, length-map}
 use lib.IntN.{ℤ}
 use lib.Seq.{set_at, get_or_at, take-suc, drop-cons, length-take-le, take-length, drop-length, append_snoc}
+use Rattle.std.proofs.lemmas.List.{map_push}
+use Rattle.lists.specs.SearchLaws.{ahead-map}
 use Rattle.acceptance.specs.Drafts.{SoundArgument, SoundWritten}
 use Rattle.drafts.specs.Drafting.{draft_arg, draft_instr, draft_switch, draft_program}
 use Rattle.drafts.specs.Marks.{mark, word_by}
@@ -26,7 +28,6 @@ use Rattle.syntax.specs.ArgumentForms.{form_in, Argument, letter_of}
 use Rattle.syntax.specs.Items.{Item, line_at}
 use Rattle.syntax.specs.Load.{label_place, switch_place, arg_of, instr_of}
 use Rattle.syntax.specs.Tables.{Written, Tables}
-use Rattle.writing.proofs.Growing.{map_snoc}
 use Rattle.writing.specs.Writing.{with_argument, put_argument}
 use Rattle.linking.proofs.Steps.{untouched}
 use Rattle.linking.proofs.Marked.{by_form, Used, used-argument}
@@ -94,7 +95,7 @@ module _ (s sw : List ℕ) where
       one-instruction p (code_resolved s sw k p) k xs (drop (suc k) p.code) x (code-only (λ p. p.labels) argument-labels k p) (code-only (λ p. p.switches) argument-switches k p) l
       (code-so-far k p (omega arith) ∙ ap (λ (ys : List Instr). xs ++ ys) (drop-cons p.code k no_instr h))
       ∙ sym (append_snoc xs (f x) (drop (suc k) p.code))
-      ∙ ap (λ (ys : List Instr). ys ++ drop (suc k) p.code) (sym (map_snoc f (take k p.code) x) ∙ ap (map f) (sym (take-suc p.code k no_instr h)))
+      ∙ ap (λ (ys : List Instr). ys ++ drop (suc k) p.code) (sym (map_push f (take k p.code) x) ∙ ap (map f) (sym (take-suc p.code k no_instr h)))
 
   pub code-whole : (p : Program) → (code_resolved s sw (length p.code) p).code ≡ map (resolved_instr p) p.code
   code-whole p =
@@ -102,10 +103,6 @@ module _ (s sw : List ℕ) where
       ∙ (λ j. map (resolved_instr p) (take-length p.code j) ++ drop-length p.code j) ∙ append-nil (map (resolved_instr p) p.code)
 
 -- ---- the same from the text's tables
-
-ahead-mapped : {X Y : Type 0} (q : Y → Bool) (f : X → Y) (xs : List X) → ahead (λ x. q (f x)) xs ≡ ahead q (map f xs)
-ahead-mapped q f [] = refl
-ahead-mapped q f (x ∷ xs) = ap (λ (n : ℕ). elim (q (f x)) as (λ b. ℕ) [ true ↦ 0 | false ↦ suc n ]) (ahead-mapped q f xs)
 
 module _ (s lines : List ℕ) (t : Tables) (c sw en : List ℕ) (h : Tabled s lines t c sw en) where
   pub label-placed : (i : Item) → Used s i → label_by s (draft_program lines t) (mark i) ≡ label_place t i.chars
@@ -118,8 +115,8 @@ module _ (s lines : List ℕ) (t : Tables) (c sw en : List ℕ) (h : Tabled s li
       let w : List ℕ = i.chars in
       ap (λ (n : ℕ). switch_by s sw n (mark i)) (length-map t.switches draft_switch)
       ∙ ap (λ (v : List ℕ). ahead (λ x. bytes_equal v (word_by s x)) (take (length t.switches) sw)) u.spells
-      ∙ ahead-mapped (bytes_equal w) (word_by s) (take (length t.switches) sw) ∙ ap (ahead (bytes_equal w)) h.switch_names
-      ∙ sym (ahead-mapped (bytes_equal w) (λ c. c.name) t.switches)
+      ∙ sym (ahead-map (bytes_equal w) (word_by s) (take (length t.switches) sw)) ∙ ap (ahead (bytes_equal w)) h.switch_names
+      ∙ ahead-map (bytes_equal w) (λ c. c.name) t.switches
 
   by_cases : (bt bn bc bl bw : Bool) (w : List ℕ) (z : ℤ) (cs : List ℕ) (m k l x : ℕ) (y : Letter) (n : ℕ) → (T bl → label_by s (draft_program lines t) m ≡ l)
       → (T bw → switch_by s sw (length (draft_program lines t).switches) k ≡ x)

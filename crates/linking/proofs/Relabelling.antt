@@ -7,14 +7,17 @@ use native.Mathlib.Omega.{arith}
 use lib.Dec.{T}
 use lib.ListN.{length, get_or, set, take, length-map}
 use lib.Seq.{take-suc, length-take-le, get_or-take}
+use Rattle.std.proofs.lemmas.List.{get_or-map, map_push}
+use Rattle.std.proofs.Math.Facts.{T_not-not}
+use Rattle.lists.specs.SearchLaws.{ahead-below}
 use Rattle.acceptance.proofs.ProgramLaws.{entries-count}
-use Rattle.acceptance.proofs.RowLaws.{any-ahead, each_map, keep-none, map-none, not-not}
+use Rattle.acceptance.proofs.RowLaws.{each_map, keep-none, map-none}
 use Rattle.drafts.specs.Drafting.{draft_switch, draft_program}
 use Rattle.drafts.specs.Marks.{mark}
 use Rattle.drafts.specs.Tabled.{entry_items, Tabled}
 use Rattle.language.specs.Program.{Entry, Switch, Program, no_entry}
 use Rattle.layout.specs.Bounds.{Each}
-use Rattle.layout.proofs.CellLaws.{each_in, each_right, get_d-map-at}
+use Rattle.layout.proofs.CellLaws.{each_in, each_right}
 use Rattle.layout.specs.Table.{all_entries}
 use Rattle.lists.specs.Lists.{any, each, if_any, keep, bytes_equal}
 use Rattle.linking.specs.Lookup.{label_by}
@@ -26,7 +29,6 @@ use Rattle.syntax.specs.Items.Sort.{word, text}
 use Rattle.syntax.specs.Load.{label_place, program_of}
 use Rattle.syntax.specs.Statements.{entries_in}
 use Rattle.syntax.specs.Tables.{Choice, Tables}
-use Rattle.writing.proofs.Growing.{map_snoc}
 use Rattle.writing.proofs.Replacing.{relabelled-entries}
 use Rattle.writing.proofs.Shapes.{kinds, counts_of, relabelled-kinds, relabelled-counts, same-switches}
 use Rattle.writing.proofs.Switching.{entries_of}
@@ -106,7 +108,7 @@ module _ (s en : List ℕ) where
       ∙ ap (λ (es : List Entry). set es k (to_label (label_by s r (get_or en k 0)) (get_or es k no_entry))) (entries-so-far k q (omega arith) l)
       ∙ (λ j. set (relabel ls (all_entries q)) (v j) (to_label (entries-same s en k q (get_or en k 0) j) (get_or (relabel ls (all_entries q)) (v j) no_entry)))
       ∙ relabel-next ls (all_entries q) x (omega (arith, n))
-      ∙ ap (λ (ms : List ℕ). relabel ms (all_entries q)) (sym (map_snoc (label_by s q) (take k en) (get_or en k 0)) ∙ ap (map (label_by s q)) (sym (take-suc en k 0 (omega arith))))
+      ∙ ap (λ (ms : List ℕ). relabel ms (all_entries q)) (sym (map_push (label_by s q) (take k en) (get_or en k 0)) ∙ ap (map (label_by s q)) (sym (take-suc en k 0 (omega arith))))
 
 -- ---- the whole program
 
@@ -189,7 +191,7 @@ module _ (s lines : List ℕ) (t : Tables) (c sw en : List ℕ) (h : Tabled s li
     unfolding undeclared_labels
     declared =
         each_right (λ i. T (any (λ l. bytes_equal i.chars l.name) t.labels)) (given_as "l" t) (entry_items t)
-        (each_map _ _ (λ i e. not-not (any (λ l. bytes_equal i.chars l.name) t.labels) e) (used_labels t)
+        (each_map _ _ (λ i e. T_not-not (any (λ l. bytes_equal i.chars l.name) t.labels) e) (used_labels t)
         (keep-none (λ i. not (any (λ l. bytes_equal i.chars l.name) t.labels)) (used_labels t)
         (map-none (λ i. i.at) (keep (λ i. not (any (λ l. bytes_equal i.chars l.name) t.labels)) (used_labels t)) none)))
 
@@ -202,10 +204,10 @@ module _ (s lines : List ℕ) (t : Tables) (c sw en : List ℕ) (h : Tabled s li
           low = λ j l. let n : ℕ = length (entry_items t) in
               let b : j < n = omega (arith, coded-long) in
               let i : Item = get_or (entry_items t) j no_item in
-              let e : get_or en j 0 ≡ mark i = sym (get_or-take n en j 0 b) ∙ ap (λ (ms : List ℕ). get_or ms j 0) h.entry_marks ∙ get_d-map-at (λ i. mark i) (entry_items t) j no_item 0 b in
+              let e : get_or en j 0 ≡ mark i = sym (get_or-take n en j 0 b) ∙ ap (λ (ms : List ℕ). get_or ms j 0) h.entry_marks ∙ get_or-map (λ i. mark i) (entry_items t) j no_item 0 b in
               let u : Used s i = each_in (Used s) (entry_items t) (entries-used s lines t c sw en h) j no_item b in
               let p : label_by s coded (get_or en j 0) ≡ label_place t i.chars = ap (label_by s coded) e ∙ coded-place (mark i) ∙ label-placed s lines t c sw en h i u in
               let m : label_place t i.chars < length t.labels =
-              any-ahead (λ l. bytes_equal i.chars l.name) t.labels (each_in (λ i. T (any (λ l. bytes_equal i.chars l.name) t.labels)) (entry_items t) declared j no_item b) in
+              ahead-below (λ l. bytes_equal i.chars l.name) t.labels (each_in (λ i. T (any (λ l. bytes_equal i.chars l.name) t.labels)) (entry_items t) declared j no_item b) in
               omega (arith, p, m, h.sound.labels_few);
         }

@@ -97,7 +97,7 @@ with-same k j p =
     ap (set p.code k) (same-argument j (instr_at p k)) ∙ set-get_or p.code k no_instr in
     λ i. record { code = e i; labels = p.labels; switches = p.switches; texts = p.texts; numbers = p.numbers }
 
-module _ (s sw c : List ℕ) (k j x : ℕ) (a : AskingFor c sw k j) (is : x ≡ get_or c (layout.first_instruction + 4 * k + 1 + j) 0) where
+module _ (s sw c : List ℕ) (k j x : ℕ) (a : AskingFor c sw k j) (is : x ≡ cell (table_of c) (1 + j + (layout.first_instruction + 4 * k))) where
   becomes : (p : Program) → HoldsProgram c p → resolved_arg s sw p (argument j (instr_at p k))
       ≡ cond (eqb (x % 8) 2) (label (label_by s p (x / 8))) (cond (eqb (x % 8) 3) (switch (switch_by s sw (length p.switches) (x / 8))) (argument j (instr_at p k)))
   becomes p h =

@@ -1,4 +1,4 @@
--- The word of a mark; the place of a name among the switches' names; and switches by their types, as they stand in the table.
+-- The place of a name among the switches' names; and switches by their types, as they stand in the table.
 use Rattle.std.specs.declared.ops.Range.{Range}
 use denote.Param.Members.{Mut}
 use Rattle.std.specs.Bool.{MatchBool}
@@ -12,14 +12,14 @@ use Rattle.std.proofs.lemmas.List.FromFn.{length-range_with_len, get_or-range_wi
 use mathlib.Core.Path.{◌≡◌, refl, sym, ap, ◌∙◌, subst}
 use mathlib.Core.Bool.{Bool, true, false, cond, ◌&&◌, ◌||◌, beq}
 use mathlib.Core.List.{List, [], ◌∷◌}
-use Prim.Native.Nat.{ℕ, zero, suc, ◌+◌, ◌*◌, ◌%◌, ◌≤◌, ◌<◌, min, ◌-◌, ◌/◌}
+use Prim.Native.Nat.{ℕ, zero, suc, ◌+◌, ◌*◌, ◌%◌, ◌≤◌, ◌<◌}
 use native.Mathlib.Nat.{not-suc-le-zero, le_of_suc-le-suc}
 use native.Mathlib.Omega.{arith}
 use lib.Dec.{eqb}
-use lib.ListN.{length, get_or, take, drop, length-drop, drop_of_length-le}
-use lib.Seq.{take_all, take-nil}
+use lib.ListN.{length, get_or}
 use Rattle.std.specs.Prelude.{Option}
 use borrow.Author.Tests.{eq-eqb, ne_eqb}
+use Rattle.std.proofs.lemmas.Bool.{or_right}
 use Rattle.drafts.specs.Marks.{word_by}
 use Rattle.table.proofs.Keys.{Missed}
 use Rattle.language.specs.Program.{Switch, Program, no_switch}
@@ -35,7 +35,6 @@ use Rattle.writing.proofs.Held.{switch_count}
 use Rattle.writing.proofs.Parts.{switches-at}
 use Rattle.writing.specs.Writing.{HoldsProgram}
 use Rattle.linking.specs.Lookup.{is_switch, Judges}
-use native.Mathlib.Decide.{dec_lt}
 
 -- ---- what `(0..n).any(..)` answers
 
@@ -62,29 +61,6 @@ any_below hit n closure u r ran tests =
     by : (b : Bool) → MatchBool b ((k : ℕ) × (k < length all) × HoldsAt (λ y. hit y ≡ true) all k) (AllWithin (λ y. hit y ≡ false) all 0 (length all)) → AnyHit hit n b
     by true h = let l : h.0 < n = omega (arith, h.1, length-range_with_len 0 n) in (h.0, l, subst (λ y. hit y ≡ true) (there h.0 l) (h.2 0))
     by false h = λ k l. subst (λ y. hit y ≡ false) (there k l) (h k 0 (omega arith) (omega (arith, l, length-range_with_len 0 n)))
-
--- ---- the word of a mark
-
-cut : (s : List ℕ) (at len a b : ℕ) → a ≡ min (length s) at → b ≡ min (length s) (at + len) → take (b - a) (drop a s) ≡ take len (drop at s)
-cut s at len a b e f = go (dec_lt at (length s)) (dec_lt (length s) (at + len))
-  where
-    go : Dec (at < length s) → Dec (length s < at + len) → take (b - a) (drop a s) ≡ take len (drop at s)
-    go (no h) u =
-        let x : drop a s ≡ [] = drop_of_length-le s {i = a} (omega (arith, e)) in
-        let y : drop at s ≡ [] = drop_of_length-le s {i = at} (omega arith) in
-        ap (take (b - a)) x ∙ take-nil (b - a) ∙ sym (ap (take len) y ∙ take-nil len)
-    go (yes h) (yes u) =
-        let z : a ≡ at = omega (arith, e) in
-        let n : length (drop at s) ≡ length s - at = length-drop at s in
-        ap (λ (k : ℕ). take (b - a) (drop k s)) z ∙ take_all (b - a) (drop at s) (omega (arith, n, e, f)) ∙ sym (take_all len (drop at s) (omega (arith, n)))
-    go (yes h) (no u) =
-        let z : a ≡ at = omega (arith, e) in
-        let w : b - a ≡ len = omega (arith, e, f) in
-        λ j. take (w j) (drop (z j) s)
-
-pub word_cut : (s : List ℕ) (m a b : ℕ) → a ≡ min (length s) (m / 64) → b ≡ min (length s) (m / 64 + m % 64) → take (b - a) (drop a s) ≡ word_by s m
-unfolding word_by
-word_cut s m a b e f = cut s (m / 64) (m % 64) a b e f
 
 -- ---- a switch by its name and its type
 
@@ -114,11 +90,7 @@ module _ (s : List ℕ) (named : Bool) (m : ℕ) where
   switch_at sw [] k l h e = absurd (not-suc-le-zero h)
   switch_at [] (w ∷ ws) k l h e = absurd (not-suc-le-zero l)
   switch_at (x ∷ sw) (w ∷ ws) zero l h e = ap (λ (b : Bool). b || is_switch s named m sw ws) e
-  switch_at (x ∷ sw) (w ∷ ws) (suc k) l h e = or-true (hits (x ∷ sw) (w ∷ ws) 0) (switch_at sw ws k (le_of_suc-le-suc l) (le_of_suc-le-suc h) e)
-    where
-      or-true : (a : Bool) {b : Bool} → b ≡ true → (a || b) ≡ true
-      or-true true e = refl
-      or-true false e = e
+  switch_at (x ∷ sw) (w ∷ ws) (suc k) l h e = or_right (hits (x ∷ sw) (w ∷ ws) 0) _ (switch_at sw ws k (le_of_suc-le-suc l) (le_of_suc-le-suc h) e)
 
   switch-past : (sw : List ℕ) (ws : List Switch) → Missed (hits sw ws) (length ws) → is_switch s named m sw ws ≡ false
   switch-past [] ws u = refl

@@ -4,8 +4,7 @@ use mathlib.Core.Bool.{Bool, true, false, cond}
 use mathlib.Core.List.{List, [], ◌∷◌, ◌++◌, append-nil}
 use Prim.Native.Nat.{ℕ, zero, suc, ◌+◌, ◌*◌, ◌/◌, ◌%◌, ◌≤◌, ◌<◌}
 use native.Mathlib.Omega.{arith}
-use lib.ListN.{length, get_or, drop}
-use lib.Seq.{get_or-take}
+use lib.ListN.{length, drop}
 use borrow.Author.Tests.{eq-eqb, ne_eqb}
 use Rattle.language.specs.Instructions.{operation}
 use Rattle.language.specs.Program.{Arg, Instr, Program, no_instr, instr_at}
@@ -45,11 +44,8 @@ module _ (c : List ℕ) (p : Program) (h : HoldsProgram c p) (k : ℕ) (there : 
   in_block j b =
       ap (λ (x : List ℕ). cell x (j + (layout.first_instruction + 4 * k))) (h.is ∙ in_parts p) ∙ next_cell (parts p) block at_block.0 (layout.first_instruction + 4 * k) at_block.1 j b
 
-  pub argument-at : (j : ℕ) → j < 3 → get_or c (layout.first_instruction + 4 * k + 1 + j) 0 ≡ arg_cell p (argument j (instr_at p k))
-  argument-at j b =
-      let z : layout.first_instruction + 4 * k + 1 + j ≡ 1 + j + (layout.first_instruction + 4 * k) = omega arith in
-      sym (get_or-take 8192 c (layout.first_instruction + 4 * k + 1 + j) 0 (omega (arith, h.tabular.code_most))) ∙ ap (cell (table_of c)) z ∙ in_block (1 + j) (omega arith)
-      ∙ argument_cell p (instr_at p k) j b
+  pub argument-at : (j : ℕ) → j < 3 → cell (table_of c) (1 + j + (layout.first_instruction + 4 * k)) ≡ arg_cell p (argument j (instr_at p k))
+  argument-at j b = in_block (1 + j) (omega arith) ∙ argument_cell p (instr_at p k) j b
 
   pub operator_at : cell (table_of c) (layout.first_instruction + 4 * k) % 64 ≡ (operation (instr_at p k).op).number
   operator_at =
@@ -109,7 +105,7 @@ module _ (sw c : List ℕ) (k : ℕ) where
   code-there : AskingAt c sw k → (p : Program) → HoldsProgram c p → k < length p.code
   code-there a p h = omega (arith, a.there, code_count c a.asking.program a.asking.holds, code_count c p h)
 
-  pub argument_is : (j x : ℕ) → AskingFor c sw k j → x ≡ get_or c (layout.first_instruction + 4 * k + 1 + j) 0 → (p : Program) → HoldsProgram c p → x ≡ arg_cell p (argument j (instr_at p k))
+  pub argument_is : (j x : ℕ) → AskingFor c sw k j → x ≡ cell (table_of c) (1 + j + (layout.first_instruction + 4 * k)) → (p : Program) → HoldsProgram c p → x ≡ arg_cell p (argument j (instr_at p k))
   argument_is j x a is p h = is ∙ argument-at c p h k (code-there a.at p h) j a.place
 
 module _ (s sw c : List ℕ) (kind : ℕ) (named : Bool) where
@@ -128,7 +124,7 @@ module _ (s sw c : List ℕ) (kind : ℕ) (named : Bool) where
       → Judges c (λ p. joined f (faults s sw kind named p (m ∷ []))) r
   noted m f t u = record { is = λ p h. u ∙ ap (joined f) (fault-one s sw kind named p m (t.is p h)) }
 
-  module _ (k j : ℕ) (f : Fault) (x : ℕ) (a : AskingFor c sw k j) (is : x ≡ get_or c (layout.first_instruction + 4 * k + 1 + j) 0) where
+  module _ (k j : ℕ) (f : Fault) (x : ℕ) (a : AskingFor c sw k j) (is : x ≡ cell (table_of c) (1 + j + (layout.first_instruction + 4 * k))) where
     pub argument-other : (x % 8 ≡ kind → ⊥) → Judges c (λ p. joined f (faults s sw kind named p (marks_in kind (arg_cell p (argument j (instr_at p k)))))) f
     argument-other e =
         record { is = λ p h. joined-none f ∙ ap (λ (ms : List ℕ). joined f (faults s sw kind named p ms)) (sym (not-of-kind kind x e) ∙ ap (marks_in kind) (argument_is sw c k j x a is p h)) }

@@ -2,10 +2,9 @@
 // Until then the table has the marks of the names that are used.
 #![tactic(auto)]
 
-ghost use Rattle.std.specs.Prelude.{◌≡◌, true, cond, [], ◌∷◌, length, take, get_or, ◌&&◌, ◌+◌, ◌*◌, ◌<◌};
+ghost use Rattle.std.specs.Prelude.{◌≡◌, true, cond, [], ◌∷◌, length, take, get_or, ◌&&◌, ◌<◌};
 ghost use Rattle.layout.specs.ArgumentKinds.{number};
 ghost use Rattle.layout.specs.Kinds.{label_kind};
-ghost use Rattle.layout.specs.Places.{first_instruction};
 ghost use Rattle.layout.specs.Table.{arg_cell, all_entries, switch_in};
 ghost use Rattle.language.specs.Instructions.{number_of};
 ghost use Rattle.language.specs.Operators.{op_by};
@@ -20,34 +19,25 @@ ghost use Rattle.linking.specs.Lookup.{label_by, is_switch, role_kind, role_name
 ghost use Rattle.linking.specs.Resolving.{argument_resolved, instr_resolved, code_resolved, entries_resolved, Labelling};
 ghost use Rattle.linking.specs.Linking.{Kept, Finds, label_places, switch_places, Links};
 
+use drafts::{place_of, word_of};
 use language::Operator;
-use layout::{ArgumentKind, TablePlaces};
-use statements::{Fault, Question, Refusal, Verdict, lower};
+use layout::ArgumentKind;
+use statements::{Fault, Question, Verdict, decide, lower};
 use table::Table;
 
 // What an argument uses a name as: a label, a switch by name, or a switch by index.
-#[derive(Clone, Copy)]
+#[derive(Clone, Copy, Debug, PartialEq, Eq)]
 enum Role {
     Label,
     Named,
     Indexed,
 }
 
-// The word of the mark `m`.
-fn word(text: &[u8], m: usize) -> &[u8]
-    ensures { result.now ≡ word_by text.now m }
-{
-    let n = text.len();
-    let a = n.min(m / 64);
-    let b = n.min(m / 64 + m % 64);
-    &text[a..b]
-}
-
 // Whether two marks name the same word.
 fn same_name(text: &[u8], m: usize, n: usize) -> bool
     ensures { result ≡ bytes_equal (word_by text.now m) (word_by text.now n) }
 {
-    word(text, m) == word(text, n)
+    word_of(text, m) == word_of(text, n)
 }
 
 // The place of the label that `m` names.
@@ -55,7 +45,7 @@ fn label_place(text: &[u8], table: Table, m: usize) -> Option<usize>
     requires { Counted table.cells.now 1 128 }
     ensures { Locates table.entry.cells.now (λ p. p.labels) (λ l. bytes_equal (word_by text.now m) l.name) result }
 {
-    finding::find_label(table, word(text, m))
+    finding::find_label(table, word_of(text, m))
 }
 
 // What the mark `m` of a label becomes: the label's place, or the count of the labels where there is none.
@@ -76,19 +66,11 @@ fn switch_for(text: &[u8], names: &[u32], m: usize) -> usize
         .unwrap_or(names.len())
 }
 
-// The cell of argument `j` of instruction `k`.
-fn cell_at(table: Table, k: usize, j: usize) -> usize
-    requires { (k < 512) × (j < 3) }
-    ensures { result ≡ get_or table.entry.cells.now (first_instruction + 4 * k + 1 + j) 0 }
-{
-    table.cells[TablePlaces::FIRST_INSTRUCTION + 4 * k + 1 + j] as usize
-}
-
 // The lower of the place at fault so far and the mark's, where that is at fault.
 fn note(f: Fault, fine: bool, m: usize) -> Fault
     ensures { result ≡ joined f (cond fine [] (place_by m ∷ [])) }
 {
-    if fine { f } else { lower(f, Some(m / 64)) }
+    lower(f, (!fine).then_some(place_of(m)))
 }
 
 // Whether the instructions of an operator take a switch by name.
@@ -123,7 +105,7 @@ fn is_asked(role: Role, operator: Operator) -> bool
 }
 
 // A text, the table of its draft, and the marks of its switches' names.
-#[derive(Clone, Copy)]
+#[derive(Clone, Copy, Debug, PartialEq, Eq)]
 struct Draft<'a, 'b> {
     text: &'a [u8],
     table: Table<'b>,
@@ -164,7 +146,7 @@ impl<'a, 'b> Draft<'a, 'b> {
         requires { AskingFor self.now.table.cells.now self.now.names.now k j }
         ensures { Judges self.now.table.cells.now (λ p. joined f (faults self.now.text.now self.now.names.now (role_kind role) (role_named role) p (marks_in (role_kind role) (arg_cell p (argument j (instr_at p k)))))) result }
     {
-        let x = cell_at(self.table, k, j);
+        let x = self.table.argument_cell(k, j);
         if x % 8 != usize::from(kind(role)) {
             return f;
         }
@@ -239,7 +221,7 @@ fn resolve_argument(text: &[u8], table: &mut [u32], sw: &[u32], k: usize, j: usi
     ensures { Changes (argument_resolved text.now sw.now k j) table.old table.new }
 {
     let draft = Table { cells: table };
-    let x = cell_at(draft, k, j);
+    let x = draft.argument_cell(k, j);
     match ArgumentKind::try_from(x % 8) {
         Ok(ArgumentKind::Label) => {
             let v = label_for(text, draft, x / 8);
@@ -296,18 +278,8 @@ pub fn resolve<'a>(text: &'a [u8], table: &mut [u32], sw: &'a [u32], en: &[u32])
         table: Table { cells: table },
         names: sw,
     };
-    if let Some(at) = draft.undeclared_label(en) {
-        return Err(Refusal {
-            question: Question::Label,
-            at,
-        });
-    }
-    if let Some(at) = draft.undeclared_switch(en) {
-        return Err(Refusal {
-            question: Question::Switch,
-            at,
-        });
-    }
+    decide(Question::Label, draft.undeclared_label(en))?;
+    decide(Question::Switch, draft.undeclared_switch(en))?;
     resolve_code(text, table, sw);
     resolve_entries(text, table, en);
     Ok(())

@@ -1,51 +1,19 @@
 -- The row of a text's lines, as it is filled from its beginning.
 use mathlib.Core.Path.{◌≡◌, refl, sym, ap, ◌∙◌}
-use mathlib.Core.Bool.{Bool, true, false, cond}
+use mathlib.Core.Bool.{cond}
 use mathlib.Core.List.{List, [], ◌∷◌, ◌++◌}
 use Prim.Native.Nat.{ℕ, suc, ◌+◌, ◌≤◌, ◌<◌}
 use native.Mathlib.Numerals.{add-one}
 use native.Mathlib.Omega.{arith}
 use lib.Dec.{eqb}
-use mir.Val.{bool_byte}
-use lib.ListN.{length, get_or, take, set, length-append, length-take, length-set}
+use lib.ListN.{length, get_or, take, set, length-take, length-set}
 use lib.Seq.{take-suc, take-suc-set, take-length}
+use Rattle.macros.proofs.LineLaws.{line_on}
 use Rattle.language.specs.Limits as limit
-use Rattle.lists.specs.Lists.{keep}
 use Rattle.lists.specs.ListLaws.{keep-few}
 use Rattle.syntax.specs.Items.{line_of, lines_of}
 use Rattle.syntax.proofs.LineLaws.{length-lines, line-here}
 use Rattle.loading.specs.Texts.{Fillable, Fills}
-
-keep_append : (p : ℕ → Bool) (xs ys : List ℕ) → keep p (xs ++ ys) ≡ keep p xs ++ keep p ys
-keep_append p [] ys = refl
-keep_append p (x ∷ xs) ys = go (p x) (keep_append p xs ys)
-  where
-    go : (t : Bool) → keep p (xs ++ ys) ≡ keep p xs ++ keep p ys → cond t (x ∷ keep p (xs ++ ys)) (keep p (xs ++ ys)) ≡ cond t (x ∷ keep p xs) (keep p xs) ++ keep p ys
-    go true h = ap (λ zs. x ∷ zs) h
-    go false h = h
-
-kept-one : (t : Bool) (x : ℕ) → length (cond t (x ∷ []) []) ≡ cond t 1 0
-kept-one true x = refl
-kept-one false x = refl
-
-pub as-number : (t : Bool) → bool_byte t ≡ cond t 1 0
-as-number true = refl
-as-number false = refl
-
-pub at_most_one : (t : Bool) → cond t 1 0 ≤ 1
-at_most_one true = omega arith
-at_most_one false = omega arith
-
--- the line one byte on
-line_on : (s : List ℕ) (i : ℕ) → i < length s → line_of s (i + 1) ≡ line_of s i + cond (eqb 10 (get_or s i 0)) 1 0
-unfolding line_of
-line_on s i h =
-    let b : ℕ = get_or s i 0 in
-    let e : take (i + 1) s ≡ take i s ++ (b ∷ []) = rw (add-one, take-suc s i 0) in
-    let n : length (keep (eqb 10) (take (i + 1) s)) ≡ length (keep (eqb 10) (take i s)) + cond (eqb 10 b) 1 0 =
-    ap (λ l. length (keep (eqb 10) l)) e ∙ ap length (keep_append (eqb 10) (take i s) (b ∷ [])) ∙ length-append (keep (eqb 10) (take i s)) (cond (eqb 10 b) (b ∷ []) []) ∙ ap (λ k. length (keep (eqb 10) (take i s)) + k) (kept-one (eqb 10 b) b)
-    in
-    omega (arith, n)
 
 -- the lines of the first i bytes stand in the row l, and the line of the next is at hand
 pub record Filling (s : List ℕ) (i line : ℕ) (l : List ℕ) (size : ℕ) : Type 0 where

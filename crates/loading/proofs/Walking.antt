@@ -11,7 +11,7 @@ use Rattle.language.specs.Limits as limit
 use Rattle.finishing.specs.Below.Progress.{Begun}
 use Rattle.finishing.specs.Below.ProgressLaws.{before-after}
 use Rattle.finishing.specs.Below.ProgressTypeProgress.{Progress}
-use Rattle.reading_statements.specs.ReadingStatements.{Read, read_verdict, Standing, Readable, ReadsStatement}
+use Rattle.reading_statements.specs.ReadingStatements.{Read, read_verdict, Standing, ReadsStatement}
 use Rattle.reading_statements.specs.declared.Answer.{Answer}
 use Rattle.statements.specs.declared.Refusal.{Refusal}
 use Rattle.std.specs.Prelude.{Ok, Err, Option, None, Some}
@@ -74,9 +74,6 @@ module _ {s lines c₀ : List ℕ} {next : Option ℕ} {g : Progress} {ms c sw e
 
 -- the statement at n is read
 module _ {s lines c₀ : List ℕ} {n : ℕ} {g : Progress} {ms c sw en : List ℕ} (u : Going s lines c₀ n g ms c sw en) where
-  pub readable : Readable s lines n g ms c sw en
-  readable = record { draft = u.draft; standing = u.standing }
-
   module _ {a : Answer} {ms' c' sw' en' : List ℕ} (k : ReadsStatement s lines n g ms c sw en a ms' c' sw' en') where
     abbrev r : Read
     r = a.read

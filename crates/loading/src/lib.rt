@@ -75,6 +75,7 @@ fn refuse(lines: &[u16], r: Refusal, cells: &mut [u32]) -> Rejected
 }
 
 // On a table that is long enough, with the lines of the text's bytes. The row `names` is for use here alone.
+// A match and no `map_err`: a proof knows nothing of the cells that a closure borrows and changes.
 pub fn load_lined(text: &[u8], lines: &[u16], names: &mut [u32], table: &mut [u32]) -> Loaded
     requires { Lent text.now lines.now names.old table.old }
     ensures { Leaves (text_loads text.now lines.now) table.old result table.new }

@@ -1,12 +1,10 @@
 -- Marks one by one: the lowest place, and questions 06 and 70.
-use Rattle.std.specs.Bool.{then_some}
 use Rattle.std.specs.Prelude.{None, Some}
 use Rattle.std.proofs.lemmas.List.Folds.{list_any-append}
 use mathlib.Core.Path.{◌≡◌, refl, sym, ap, ◌∙◌}
 use mathlib.Core.Bool.{Bool, true, false, cond, ◌||◌}
 use mathlib.Core.List.{List, [], ◌∷◌, ◌++◌, map, append_assoc, append-nil, map-append}
-use Prim.Native.Nat.{ℕ, ◌+◌, ◌-◌, ◌/◌, ◌%◌, ◌<◌}
-use native.Mathlib.Omega.{arith}
+use Prim.Native.Nat.{ℕ, ◌+◌, ◌/◌, ◌%◌, ◌<◌}
 use native.Mathlib.Numerals.{add-one}
 use lib.ListN.{length, get_or, take, drop}
 use lib.Seq.{take-suc}
@@ -28,10 +26,6 @@ lowest-more of ms ps m x a b q = q ∙ (λ j. lower (a j) (b j)) ∙ sym (fault-
 pub mark-more : (ms : List ℕ) (m : ℕ) {f r : Fault} → f ≡ fault_of (map place_by ms) → r ≡ lower f (Some (place_by m)) → r ≡ fault_of (map place_by (ms ++ (m ∷ [])))
 unfolding lowest
 mark-more ms m a q = lowest-more (map place_by) ms (place_by m ∷ []) m (map-append place_by ms (m ∷ [])) a refl q
-
-pub chosen : (b : Bool) (p : ℕ) → then_some b p ≡ cond b (Some p) None
-chosen true p = refl
-chosen false p = refl
 
 -- question 06: one mark
 pub own-asked : (s : List ℕ) (xs ys : List (List ℕ)) (m : ℕ) → {p q b : Bool} → p ≡ any (bytes_equal (take (m % 64) (drop (m / 64) s))) xs
@@ -69,11 +63,9 @@ module _ (s : List ℕ) where
       lowest-more (repeated_by s names) (take k ms) (own_repeated s (names ++ names_of s (take k ms)) m) m (repeated-more names (take k ms) m) a b q ∙ ap (λ (xs : List ℕ). fault_of (repeated_by s names xs)) (sym t)
 
 -- question 70: one mark
-pub own-told : (s : List ℕ) (m : ℕ) {r b : Bool} → r ≡ reserved (take (m / 64 + m % 64 - m / 64) (drop (m / 64) s)) → r ≡ b → cond b (Some (m / 64)) None ≡ fault_of (reserved_by s (m ∷ []))
-unfolding word_by lowest
-own-told s m {r} {b} h q =
-    let e : m / 64 + m % 64 - m / 64 ≡ m % 64 = omega arith in
-    rw (sym (ap (λ (n : ℕ). reserved (take n (drop (m / 64) s))) e) ∙ sym h ∙ q) (go b)
+pub own-told : (s : List ℕ) (m : ℕ) {r b : Bool} → r ≡ reserved (word_by s m) → r ≡ b → cond b (Some (m / 64)) None ≡ fault_of (reserved_by s (m ∷ []))
+unfolding lowest
+own-told s m {r} {b} h q = rw (sym h ∙ q) (go b)
   where
     go : (b : Bool) → cond b (Some (m / 64)) None ≡ fault_of (map place_by (cond b (m ∷ []) []))
     go true = refl

@@ -1,18 +1,23 @@
 -- A name among others.
 use mathlib.Core.Path.{◌≡◌, refl, sym, ap, subst, ◌∙◌}
-use mathlib.Core.Bool.{Bool, true, false}
-use mathlib.Core.List.{List}
+use mathlib.Core.Bool.{Bool, true, false, ◌||◌}
+use mathlib.Core.List.{List, [], ◌∷◌}
 use Prim.Native.Nat.{ℕ, ◌+◌, ◌-◌, ◌*◌, ◌/◌, ◌%◌, ◌≤◌, ◌<◌}
 use native.Mathlib.Omega.{arith}
 use lib.Dec.{T}
 use lib.ListN.{length, get_or, take, drop, length-take, length-drop}
 use lib.Seq.{get_or-take, get_or-drop}
 use Rattle.layout.specs.Cells.{four}
-use Rattle.lists.specs.Lists.{bytes_equal}
+use Rattle.lists.specs.Lists.{any, bytes_equal}
 use Rattle.lists.specs.ListLaws.{other_length, same_bytes-eq}
 use Rattle.drafts.specs.Marks.{length_by, word_by}
 use Rattle.statements.specs.Below.Tokens.{part}
-use Rattle.names.specs.Names.{Fitting}
+use Rattle.names.specs.Names.{Fitting, names_of}
+
+-- one of the names of some marks is a word
+pub any-named : (s w ms : List ℕ) → any (λ m. bytes_equal w (word_by s m)) ms ≡ any (bytes_equal w) (names_of s ms)
+any-named s w [] = refl
+any-named s w (m ∷ ms) = ap (λ b. bytes_equal w (word_by s m) || b) (any-named s w ms)
 
 module _ {s : List ℕ} {m at len : ℕ} (pre : Fitting s m at len) where
   pub long : length (take len (drop at s)) ≡ len

@@ -3,10 +3,11 @@
 
 ghost use Rattle.std.specs.Prelude.{◌≡◌, [], ◌∷◌, ◌++◌, map, take, drop};
 ghost use Rattle.lists.specs.Lists.{any, bytes_equal};
-ghost use Rattle.drafts.specs.Marks.{place_by, word_by, Marked};
+ghost use Rattle.drafts.specs.Marks.{place_by, word_by};
 ghost use Rattle.statements.specs.StatementAt.{fault_of};
 ghost use Rattle.names.specs.Names.{Fitting, Marks, Sought, names_of, Askable, own_repeated, repeated_by, reserved_by};
 
+use drafts::{length_of, place_of, word_of};
 use packed::cell_of;
 use statements::{Fault, lower};
 
@@ -16,10 +17,10 @@ fn name_is(text: &[u8], m: usize, at: usize, len: usize) -> bool
     requires { Fitting text.now m at len }
     ensures { result ≡ bytes_equal (take len (drop at text.now)) (word_by text.now m) }
 {
-    if m % 64 != len {
+    if length_of(m) != len {
         return false;
     }
-    let from = m / 64;
+    let from = place_of(m);
     if 4 <= len {
         if cell_of(text, at + (len - 4)) != cell_of(text, from + (len - 4)) {
             return false;
@@ -29,17 +30,11 @@ fn name_is(text: &[u8], m: usize, at: usize, len: usize) -> bool
 }
 
 // Whether one of some names is the `len` bytes at `at`.
-// No `any`: it leaves open that its closure, which asks `Fitting` of a mark, may be called for each name.
 fn has_name(text: &[u8], names: &[u32], at: usize, len: usize) -> bool
     requires { Sought text.now names.now at len }
     ensures { result ≡ any (bytes_equal (take len (drop at text.now))) (names_of text.now names.now) }
 {
-    for m in names {
-        if name_is(text, *m as usize, at, len) {
-            return true;
-        }
-    }
-    false
+    names.iter().any(|m| name_is(text, *m as usize, at, len))
 }
 
 // The place of a name, if it is one of those of two rows.
@@ -47,8 +42,8 @@ fn met_before(text: &[u8], before: &[u32], names: &[u32], m: usize) -> Fault
     requires { Askable text.now before.now names.now m }
     ensures { result ≡ fault_of (own_repeated text.now (names_of text.now before.now ++ names_of text.now names.now) m) }
 {
-    let at = m / 64;
-    let len = m % 64;
+    let at = place_of(m);
+    let len = length_of(m);
     (has_name(text, before, at, len) | has_name(text, names, at, len)).then_some(at)
 }
 
@@ -58,22 +53,17 @@ pub fn first_repeated(text: &[u8], before: &[u32], names: &[u32]) -> Fault
     ensures { result ≡ fault_of (repeated_by text.now (names_of text.now before.now) names.now) }
 {
     let mut fault = None;
-    for k in 0..names.len() {
-        fault = lower(
-            fault,
-            met_before(text, before, &names[..k], cells::read(names, k)),
-        );
+    for (k, m) in names.iter().enumerate() {
+        fault = lower(fault, met_before(text, before, &names[..k], *m as usize));
     }
     fault
 }
 
 // The place of the word of a mark, if it is a keyword of either edition.
 fn own_reserved(text: &[u8], m: usize) -> Fault
-    requires { Marked text.now m }
     ensures { result ≡ fault_of (reserved_by text.now (m ∷ [])) }
 {
-    let at = m / 64;
-    words::is_reserved(&text[at..at + m % 64]).then_some(at)
+    words::is_reserved(word_of(text, m)).then_some(place_of(m))
 }
 
 // Question 70 of some names.
@@ -92,5 +82,5 @@ pub fn lowest_mark(marks: &[u32]) -> Fault
 {
     marks
         .iter()
-        .fold(None, |low, m| lower(low, Some(*m as usize / 64)))
+        .fold(None, |low, m| lower(low, Some(place_of(*m as usize))))
 }

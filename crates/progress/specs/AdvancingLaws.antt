@@ -7,11 +7,12 @@ use Rattle.std.proofs.lemmas.Bool.{false≢true}
 use mathlib.Core.List.{List, [], ◌∷◌, ◌++◌, append-nil}
 use Prim.Native.Nat.{ℕ, pred, ◌≤◌, ◌<◌}
 use borrow.Author.Tests.{not-true}
+use lib.Ieee.Bits.{is_false, is_true}
 use Rattle.acceptance.proofs.ArgumentLaws.{word-apart}
 use Rattle.acceptance.proofs.StatementLaws.{each-behind}
 use Rattle.headings.specs.Below.HeadLaws.{some-number}
 use Rattle.declaring.specs.Below.CountLaws.{above, number-kept, this-instruction, has-operator}
-use Rattle.acceptance.proofs.RowLaws.{Answered, fails, append-none}
+use Rattle.acceptance.proofs.RowLaws.{Answered, append-none}
 use Rattle.progress.specs.Closing.{unended}
 use Rattle.declaring.specs.SpeltLaws.{statement-spelt}
 use Rattle.declaring.specs.TabledLaws.{operated}
@@ -142,7 +143,7 @@ section-name (i ∷ js) h f = go (filled i.colon) refl (same_keyword Spec.Keywor
         → (j : Item) × ((ks : List Item) × ((drop 1 (cond (is_operator i) (i ∷ js) (behind js)) ≡ j ∷ ks) × T (is word j && identifier j.chars)))
     go true e b q h = absurd (let z : ◌≡◌ {A = ℕ} 0 1 = cc in omega arith)
     go false e false q h = absurd (let z : ◌≡◌ {A = ℕ} 0 1 = cc in omega arith)
-    go false e true q h = rw (fails (is colon i) (word-apart i (sekcja-word i (subst T (sym q) tt))).1, e) (name-first i.at js h)
+    go false e true q h = rw (is_false (is colon i) (word-apart i (sekcja-word i (subst T (sym q) tt))).1, e) (name-first i.at js h)
 
 -- its characters, and so its mark, are not none
 name-filled : (w : List ℕ) → T (identifier w) → (filled w ≡ true) × (0 < length w)
@@ -198,10 +199,6 @@ module _ (s : List ℕ) (n : ℕ) where
 -- ---- the edition
 
 -- "SEKCJA and one name, unlabelled": SECTION is the English edition's own word, and a name follows it
-passes : (b : Bool) → T b → b ≡ true
-passes true h = refl
-passes false h = absurd h
-
 section-edition : (x : List Item) → first_faults x ≡ [] → (chooses_english x ≡ own_in true x) × (filled (head_or [] (contents (rest x))) ≡ false → chooses_english x ≡ false)
 unfolding first_faults behind chooses_english
 section-edition [] h = (refl, λ e. refl)
@@ -219,10 +216,10 @@ section-edition (i ∷ js) h = go (filled i.colon) refl (same_keyword Spec.Keywo
     go false e true q h =
         let w : T (is word i) = sekcja-word i (subst T (sym q) tt) in
         let (j, (ks, (p, l))) = name-first i.at js h in
-        let k : keyword_of i ≡ keyword_by i.chars = keyword-item i ∙ ap (λ b. cond b (keyword_by i.chars) Spec.Keyword.unknown) (passes (is word i) w) in
+        let k : keyword_of i ≡ keyword_by i.chars = keyword-item i ∙ ap (λ b. cond b (keyword_by i.chars) Spec.Keyword.unknown) (is_true (is word i) w) in
         let c : bytes_equal i.chars (bytes "SECTION") ≡ own true i.chars = chooses-section i.chars (subst T (sym (sym (ap (same_keyword Spec.Keyword.SEKCJA) k) ∙ q)) tt) in
         let f = (name-filled j.chars (T-right (is word j) (identifier j.chars) l)).0 in
-        rw (fails (is colon i) (word-apart i w).1, e, passes (is word i) w, p) (c, λ z. absurd (false≢true (sym z ∙ f)))
+        rw (is_false (is colon i) (word-apart i w).1, e, is_true (is word i) w, p) (c, λ z. absurd (false≢true (sym z ∙ f)))
 
 module _ {s : List ℕ} {n : ℕ} {h : Head} (g : Headed s n h) where
   abbrev items : List Item

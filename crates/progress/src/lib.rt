@@ -19,7 +19,7 @@ use words::Edition;
 
 // Whether KONS and KONP were met, the place of a KONP before any KONS, and the lowest place at fault.
 // Two flags and no enum of stages: each is asked alone, and a KONP without KONS is a fourth state.
-#[derive(Clone, Copy)]
+#[derive(Clone, Copy, Debug, PartialEq, Eq)]
 pub struct Closing {
     pub kons: bool,
     pub konp: bool,
@@ -29,7 +29,7 @@ pub struct Closing {
 
 // The mark of the section's name, none before SEKCJA; its edition; how many labels were met, and how many of them, the last ones, wait for their statement; how the
 // section ends; and the place of the last instruction, where a text may not end with it.
-#[derive(Clone, Copy)]
+#[derive(Clone, Copy, Debug, PartialEq, Eq)]
 pub struct Progress {
     pub section: Option<u32>,
     pub edition: Edition,

@@ -1,7 +1,8 @@
 -- A statement that is neither an instruction nor a switch: SEKCJA, KONS, KONP, or labels alone.
 use Rattle.std.specs.Prelude.{Bool, false, List, [], ◌≡◌, refl, ℕ, ◌≤◌, length, Ok, Err}
 use Rattle.std.proofs.Common.{sym, ap, ◌∙◌, subst}
-use Rattle.progress.specs.Below.Headings.{Restable, mark_first, Rests, FirstTold, FollowsTold}
+use Rattle.statements.specs.Places.{InText}
+use Rattle.progress.specs.Below.Headings.{mark_first, Rests, FirstTold, FollowsTold}
 use Rattle.progress.specs.Below.Rest.{Rest}
 use Rattle.heads.specs.Heads.{head_keyword, Headed, instr_of, is_switch}
 use Rattle.heads.specs.declared.Head.{Head}
@@ -32,7 +33,7 @@ use Rattle.reading_statements.specs.ReadLaws.{answers, plain, read_as}
 use Rattle.reading_statements.specs.ReadingStatements.{Read, Reading, Finishes, ReadsEnding, EndingTold}
 use Rattle.reading_statements.specs.declared.Ending.{Ending}
 
-pub restable : {s : List ℕ} {n : ℕ} {h : Head} → Headed s n h → length s ≤ limit.text → Restable s h.op
+pub restable : {s : List ℕ} {n : ℕ} {h : Head} → Headed s n h → length s ≤ limit.text → InText s h.op
 restable k low = record { low = low; stands = k.stands }
 
 -- 11 has no fault

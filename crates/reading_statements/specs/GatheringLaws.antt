@@ -9,6 +9,7 @@ use Rattle.acceptance.specs.Drafts.{SoundItem, FineItem}
 use Rattle.acceptance.proofs.ReaderLaws.{head-sound, statements-sound-from}
 use Rattle.acceptance.proofs.RowLaws.{each_map, each_both, each_keep, each-kept, each-mapped, Answered}
 use Rattle.acceptance.proofs.StatementLaws.{fine-items, each-front}
+use Rattle.declaring_switches.specs.Below.Entering.{ShortItem}
 use Rattle.declaring_switches.specs.Below.SpeltLaws.{statement-spelt}
 use Rattle.drafts.specs.DraftingLaws.{length_back}
 use Rattle.drafts.specs.Marks.{mark, length_by, word_by, Marked, marks_in}
@@ -35,9 +36,6 @@ use Rattle.syntax.specs.Statements.{front, reserved, labels_in}
 use Rattle.syntax.specs.Tables.{Draft, all_labels, contents, draft_after}
 use Rattle.reading_statements.specs.Asking.{names_verdict}
 use Rattle.reading_statements.specs.Judging.{Judging, from}
-
-abbrev pub Short : Item → Type 0
-Short i = length i.chars ≤ limit.item
 
 -- a word that its mark names
 abbrev SpeltWord : List ℕ → Item → Type 0
@@ -106,7 +104,7 @@ module _ {s : List ℕ} {n : ℕ} {d : Draft} {g : Progress} {h : Head} {ms : Li
     pub all-fine : Each (FineItem (length s)) x
     all-fine = fine-items (length s) x (statement-sound s n j.inside) plain.1.0 plain.1.1.0
 
-    pub all_short : Each Short x
+    pub all_short : Each ShortItem x
     all_short = each_map _ _ (λ i f. f.short) x all-fine
 
     pub all-spelt : Each (Spelt s) x
@@ -133,7 +131,7 @@ module _ {s : List ℕ} {n : ℕ} {d : Draft} {g : Progress} {h : Head} {ms : Li
               ∙ rw (j.tells.names.names_are, mark-names s ls words) refl;
           marked = marks-have (Marked s) (omega arith) j.tells.names.marked (each_map _ _ (λ l e. e.0.is_there e.1) ls words);
           short = marks-have (λ m. length_by m ≤ limit.item) (omega arith) j.tells.names.short
-              (each_map Short _ (λ l e. omega (arith, length_back l.at (length l.chars) (omega (arith, e)), e)) ls (labels-have Short x all_short));
+              (each_map ShortItem _ (λ l e. omega (arith, length_back l.at (length l.chars) (omega (arith, e)), e)) ls (labels-have ShortItem x all_short));
         }
 
     -- 08, 06 and 70, as they are asked of the marks
@@ -144,10 +142,10 @@ module _ {s : List ℕ} {n : ℕ} {d : Draft} {g : Progress} {h : Head} {ms : Li
     repeatable = record { most = all_most; marked = names-kept.marked }
 
     pub labels-told : {f : Fault} → LabelFault h (marks_in ms (from g) h.names) f → f ≡ fault_of (label_faults (all_labels d x) x)
-    labels-told e = e s n j.headed (all_labels d x) (sym marks-all) (each_append Short d.waiting ls j.short (labels-have Short x all_short))
+    labels-told e = e s n j.headed (all_labels d x) (sym marks-all) (each_append ShortItem d.waiting ls j.short (labels-have ShortItem x all_short))
 
     named : Each (NamedLabel s) ls
-    named = each_map _ (NamedLabel s) (λ l e. record { is_word = e.0.1; spelt = e.0.0; short = e.1 }) ls (each_both (SpeltWord s) Short ls words (labels-have Short x all_short))
+    named = each_map _ (NamedLabel s) (λ l e. record { is_word = e.0.1; spelt = e.0.0; short = e.1 }) ls (each_both (SpeltWord s) ShortItem ls words (labels-have ShortItem x all_short))
 
     pub names-told : names_verdict s ms g.names h.names
         ≡ then (decided 6 (fault_of (repeated d.names ls))) (decided 70 (fault_of (places (keep (λ l. reserved l.chars) ls))))

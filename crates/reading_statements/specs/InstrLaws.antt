@@ -6,7 +6,8 @@ use Rattle.std.proofs.Math.Path.{ap, subst}
 use Rattle.acceptance.proofs.DraftLaws.{arguments_sound}
 use Rattle.acceptance.proofs.RowLaws.{Answered, answered, each_map}
 use Rattle.declaring_switches.specs.Below.ArgumentCells.{RightArgument}
-use Rattle.declaring_switches.specs.Below.Arguments.{Operates, ReadsArguments}
+use Rattle.declaring_switches.specs.Below.Arguments.{ReadsArguments}
+use Rattle.statements.specs.Places.{InText}
 use Rattle.declaring_switches.specs.Below.CountLaws.{Instruction, this-instruction, above}
 use Rattle.declaring_switches.specs.Below.ArgumentsTypeArguments.{Arguments}
 use Rattle.declaring_switches.specs.Below.Declaring.{Declarable, DeclaresValues, RightValues, Declares}
@@ -42,7 +43,7 @@ use Rattle.syntax.specs.Questions.{count_faults, instr_faults, switch_faults, in
 use Rattle.syntax.specs.Statements.{by_keyword, keyword_in, rest}
 use Rattle.syntax.specs.Tables.{Tables, Draft, all_labels, tables_after, with_instr, with_switch}
 use Rattle.syntax.specs.Verdict.{first_no}
-use Rattle.reading_statements.specs.Admitting.{Admits}
+use Rattle.reading_statements.specs.Admitting.{Admits, unchanged}
 use Rattle.reading_statements.specs.Asking.{HeadAsked}
 use Rattle.reading_statements.specs.GatheringLaws.{names-kept}
 use Rattle.reading_statements.specs.Judging.{from}
@@ -148,7 +149,7 @@ module _ {s lines : List ℕ} {n : ℕ} {d : Draft} {g : Progress} {h : Head} {m
 
 module _ {s : List ℕ} {h : Head} {operator : Operator} (is : Some operator ≡ instr_by (head_keyword h)) where
   module _ {n : ℕ} (k : Headed s n h) where
-    pub operates : length s ≤ limit.text → Operates s h.op
+    pub operates : length s ≤ limit.text → InText s h.op
     operates low = record { stands = k.stands; low = low }
 
     pub whole-instr : {a : Arguments} → ReadsArguments s h.op (number_by operator) h.worst a → a.worst ≡ worst (statement_at s n)
@@ -169,7 +170,7 @@ module _ {s : List ℕ} {h : Head} {operator : Operator} (is : Some operator ≡
 
     pub read-instr : (w : told.Verdict) {c' : List ℕ}
         → Admits (λ f. DeclaresValues s (record { operator = operator; at = h.op.at; line = line; values = a.values }) (marks_in ms (from g) h.names) c f c') v w c c'
-        → {y : Read} → Finishes g h (record { section = g.section; after = None }) ms w y → ReadsInstr s lines g h ms c (answers y a.next) c'
+        → {y : Read} → Finishes g h (unchanged g) ms w y → ReadsInstr s lines g h ms c (answers y a.next) c'
     read-instr w t z sw en =
         read_as early-instr (λ n d r b f. instr-last r b is o l f) (λ n d r b. acting r b (instr-acts r.judging.headed (some-number (head_keyword h) is) (above operator refl)))
         (λ n k. ends-behind k (there k (instr-acts k (some-number (head_keyword h) is) (above operator refl))) o.ends) w t z

@@ -37,7 +37,7 @@ use Rattle.syntax.specs.Tables.{Draft, is_first, draft_after, all_labels, tables
 use Rattle.syntax.specs.Verdict.{first_no}
 use Rattle.syntax.specs.Verdict.Verdict.{yes}
 use Rattle.reading_statements.specs.Admitting.{Admits, AskedLast}
-use Rattle.reading_statements.specs.GatheringLaws.{Short, statement-sound, labels-have, marks-all, all_short, all-spelt, names-kept, all-fine}
+use Rattle.reading_statements.specs.GatheringLaws.{statement-sound, labels-have, marks-all, all_short, all-spelt, names-kept, all-fine}
 use Rattle.reading_statements.specs.Judging.{from}
 use Rattle.reading_statements.specs.KindLaws.{acts, acts-alone, zero-here}
 use Rattle.reading_statements.specs.QuestionLaws.{table_faults, all_told}
@@ -135,7 +135,7 @@ module _ {s lines : List ℕ} {n : ℕ} {d : Draft} {g : Progress} {h : Head} {m
               names = names-kept j p;
               marks = marks-all j;
               spelt = each_append (Spelt s) d.waiting (labels_in x) j.tells.waiting.spelt (labels-have (Spelt s) x (all-spelt j p));
-              short = each_append Short d.waiting (labels_in x) j.short (labels-have Short x (all_short j p));
+              short = each_append ShortItem d.waiting (labels_in x) j.short (labels-have ShortItem x (all_short j p));
               closing = j.tells.closing;
               ended = j.tells.ended;
             });

@@ -1,7 +1,7 @@
 -- A statement whose head is read: the marks before it stay, and what its reader tells. And the empty statement.
 use Rattle.std.specs.Prelude.{◌≡◌, refl, Ok, Bool, true, false, ◌&&◌, List, [], ◌++◌, map, ℕ, ◌-◌, ◌≤◌, ◌<◌, eqb, length, get_or, take, drop}
-use Rattle.std.proofs.Common.{sym, ap, ◌∙◌, subst, true≢false, arith, length-drop, length-take-le, take_all, take-take, take_at, get_or-take}
-use Rattle.std.proofs.lemmas.Bool.{not-true}
+use Rattle.std.proofs.Common.{sym, ap, ◌∙◌, subst, arith, length-drop, length-take-le, take_all, take-take, take_at, get_or-take}
+use Rattle.std.proofs.lemmas.Bool.{not-true, and_parts}
 use Rattle.acceptance.proofs.RowLaws.{each_map}
 use Rattle.drafts.specs.Marks.{mark, length_by, Marked}
 use Rattle.progress.specs.Below.HeadingLaws.{front-none}
@@ -69,18 +69,14 @@ empty-yes d false e = rw e refl
 
 -- ---- an empty statement
 
-and_both : (a b : Bool) → (a && b) ≡ true → (a ≡ true) × (b ≡ true)
-and_both true b e = (refl, e)
-and_both false b e = absurd (true≢false (sym e))
-
 module _ {s : List ℕ} {n : ℕ} {h : Head} (k : Headed s n h) (e : (stops h.op.sort && eqb h.first h.op.at) ≡ true) where
   at_end : stops h.op.sort ≡ true
-  at_end = (and_both (stops h.op.sort) _ e).0
+  at_end = (and_parts (stops h.op.sort) _ e).0
 
   x-empty : statement_at s n ≡ []
   x-empty =
       let x = statement_at s n in
-      sym (front-none x (not-true (filled (front x)) (sym k.front_is ∙ (and_both (stops h.op.sort) (eqb h.first h.op.at) e).1))) ∙ behind-by k true at_end
+      sym (front-none x (not-true (filled (front x)) (sym k.front_is ∙ (and_parts (stops h.op.sort) (eqb h.first h.op.at) e).1))) ∙ behind-by k true at_end
 
 -- ---- its head is read
 

@@ -1,8 +1,11 @@
 -- A statement with a switch.
-use Rattle.std.specs.Prelude.{Bool, false, true, ◌&&◌, ◌≡◌, refl, ℕ, ◌+◌, ◌-◌, ◌<◌, ◌≤◌, drop, length, get_or, Ok}
+use Rattle.std.specs.Prelude.{Bool, false, true, ◌&&◌, ◌≡◌, refl, ℕ, ◌+◌, ◌-◌, ◌<◌, ◌≤◌, min, drop, take, length, get_or, Ok}
 use Rattle.std.proofs.Math.Bool.{cond}
 use mathlib.Core.List.{List, [], ◌∷◌, ◌++◌, map}
 use Rattle.std.proofs.Common.{sym, ◌∙◌, subst, arith, length-take, get_or-take, get_or-drop}
+use Rattle.std.proofs.lemmas.List.{length-take-le, take-append-le}
+use Rattle.std.proofs.Math.ListN.{length-map}
+use Rattle.std.proofs.Math.Seq.{take-append-add}
 use Rattle.std.proofs.Math.Path.{ap}
 use Rattle.std.proofs.Math.Dec.{T}
 use Rattle.acceptance.proofs.DraftLaws.{one_label}
@@ -52,7 +55,7 @@ use Rattle.syntax.specs.Statements.{by_keyword, behind, keyword_in, rest, operat
 use Rattle.syntax.specs.Tables.{Choice, Tables, Draft, all_labels, contents, tables_after, new_texts, with_instr, with_switch}
 use Rattle.syntax.specs.Verdict.{first_no}
 use Rattle.writing.proofs.Held.{entry_count}
-use Rattle.reading_statements.specs.Admitting.{Admits, declaration}
+use Rattle.reading_statements.specs.Admitting.{Admits, declaration, unchanged}
 use Rattle.reading_statements.specs.Asking.{HeadAsked}
 use Rattle.reading_statements.specs.GatheringLaws.{marks-all, names-kept}
 use Rattle.reading_statements.specs.Judging.{Judging, from}
@@ -82,6 +85,13 @@ entries_fit s at n p e =
     let ps : List ℕ = beyond limit.switches (length p.switches) (at ∷ []) in
     (append-none ps ws (append-none (ps ++ ws) (texts_excess s n p) e).0).1
 
+-- the marks that are put behind the first `held` of a row
+behind-held : (held : ℕ) (en em later ms : List ℕ) → held ≤ length en → (k : ℕ) → take k em ≡ ms → length ms ≡ k → take (held + k) (take held en ++ (em ++ later)) ≡ take held en ++ ms
+behind-held held en em later ms low k e n =
+    let a : length (take held en) ≡ held = length-take-le held en low in
+    ap (λ (j : ℕ). take (j + k) (take held en ++ (em ++ later))) (sym a) ∙ take-append-add (take held en) (em ++ later) k
+    ∙ ap (λ (xs : List ℕ). take held en ++ xs) (take-append-le k em later (omega (arith, length-take k em, ap length e, n)) ∙ e)
+
 -- the entries that the table has
 pub held_most : {s lines : List ℕ} {t : Tables} {c sw en : List ℕ} → Tabled s lines t c sw en → cell (table_of c) 3 ≤ limit.entries
 unfolding draft_program
@@ -90,7 +100,7 @@ held_most {lines = lines} {t = t} {c = c} v =
 
 module _ {s lines : List ℕ} {n : ℕ} {d : Draft} {g : Progress} {h : Head} {ms c sw en : List ℕ} (r : Reading s lines n d g h ms c sw en)
     (early : Answered (early_questions d (statement_at s n))) (some : is_switch (head_keyword h) ≡ true) {named : Bool} (named-is : named ≡ is_by_name (head_keyword h))
-    {w : told.Verdict} {tx : List (Option Quoted)} {l : Listed} {en' : List ℕ} {tx' : List (Option Quoted)} (list : ReadsList s h.op named w (cell (table_of c) 3) en tx l en' tx') where
+    {w : told.Verdict} {l : Listed} {em : List ℕ} {tx : List (Option Quoted)} (list : ReadsList s h.op named w l em tx) (room : length em ≡ limit.entries - cell (table_of c) 3) where
   abbrev x : List Item
   x = statement_at s n
 
@@ -144,16 +154,18 @@ module _ {s lines : List ℕ} {n : ℕ} {d : Draft} {g : Progress} {h : Head} {m
   faultless =
       right-list named (rest x) (places (operator x)) (sym (by-own (instr_faults x) (switch_faults x) []) ∙ early.1.1.1.1.1.1.1.1.1.0)
 
-  pub switch-declarable : length tx' ≡ limit.entries → DeclarableSwitch s (declaration h.op named (get_or ms (from g) 0) l) c sw tx'
-  switch-declarable room =
+  -- the cells of its own entries, up to the last that has room
+  pub switch-declarable : length tx ≡ limit.entries → {own : ℕ} → own ≡ min l.words (limit.entries - cell (table_of c) 3)
+      → DeclarableSwitch s (declaration h.op named (get_or ms (from g) 0) l) c sw (take own tx)
+  switch-declarable long {own} e =
       record {
         list = record {
           inside = k.stands.most;
           words_is = list.words_is;
           few = list.few;
-          over_is = list.over_is;
-          texts = list.texts;
-          text_room = room;
+          over_is = rw room at list.over_is;
+          texts = λ j i m. rw (get_or-take own tx j None (omega (arith, m, length-take own tx))) (list.texts j i (omega (arith, m, length-take own tx)));
+          text_count = omega (arith, length-take own tx, e, long);
           ordered = list.ordered;
           right = subst (λ (js : List Item). list_faults named false js ≡ []) here.rest_is faultless;
           short = subst (λ (js : List Item). Each ShortItem js) here.rest_is (rest-short r early);
@@ -164,7 +176,7 @@ module _ {s lines : List ℕ} {n : ℕ} {d : Draft} {g : Progress} {h : Head} {m
       }
 
   -- 11, and the tables after it
-  module _ (f : Fault) {c' sw' : List ℕ} (u : DeclaresSwitch s (declaration h.op named (get_or ms (from g) 0) l) c sw f c' sw') (size : length en' ≡ length en) where
+  module _ (f : Fault) {c' sw' : List ℕ} (u : DeclaresSwitch s (declaration h.op named (get_or ms (from g) 0) l) c sw f c' sw') where
     told-last : f ≡ fault_of (table_faults d x)
     told-last =
         switch-told lines t named ls here u r.tabled.holds
@@ -174,25 +186,31 @@ module _ {s lines : List ℕ} {n : ℕ} {d : Draft} {g : Progress} {h : Head} {m
     over-clear e =
         let p : Program = draft_program lines t in
         let ws : List ℕ = places (keep (is word) (statement_at s h.op.next)) in
-        list.over_is ∙ ap (λ (k : ℕ). fault_of (beyond limit.entries k ws)) (entry_count c p r.tabled.holds)
+        list.over_is ∙ ap (λ (k : ℕ). fault_of (drop k ws)) room ∙ ap (λ (k : ℕ). fault_of (beyond limit.entries k ws)) (entry_count c p r.tabled.holds)
         ∙ ap fault_of (entries_fit s h.op.at h.op.next p (no-fault (switch_excess s h.op.at h.op.next p) (sym (u.told p r.tabled.holds) ∙ e)))
 
-    pub switch-last : (f ≡ fault_of (table_faults d x)) × (f ≡ None → Tabled s lines (tables_after t ls x) c' sw' en')
-    switch-last = (
-      told-last,
-      λ e.
-          let q : tables_after t ls x ≡ with_switch t ls x named = by-own (with_instr t ls x) (with_switch t ls x) t in
-          rw q
-          (switch-tabled lines t named ls here u r.tabled en' (list.marks (over-clear e)) (rw q at (tables-here r early told-last e)) (spelt-rest r early) name-spells
-          ((names-kept r.judging (plain r early)).marked (from g) own-mark.0) size kept_here e),
-    )
+    -- of the marks em was lent, and is put back
+    module _ (later : List ℕ) {en' : List ℕ} (parts : en' ≡ take (cell (table_of c) 3) en ++ (em ++ later)) (size : length en' ≡ length en) where
+      marks-put : f ≡ None → let words = keep (is word) (statement_at s h.op.next) in take (cell (table_of c) 3 + length words) en' ≡ take (cell (table_of c) 3) en ++ map mark words
+      marks-put e =
+          let words = keep (is word) (statement_at s h.op.next) in
+          let low : cell (table_of c) 3 ≤ length en = omega (arith, held_most r.tabled, r.tabled.entry_room) in
+          rw parts (behind-held (cell (table_of c) 3) en em later (map mark words) low (length words) (list.marks (over-clear e)) (length-map words mark))
+
+      pub switch-last : (f ≡ fault_of (table_faults d x)) × (f ≡ None → Tabled s lines (tables_after t ls x) c' sw' en')
+      switch-last = (
+        told-last,
+        λ e.
+            let q : tables_after t ls x ≡ with_switch t ls x named = by-own (with_instr t ls x) (with_switch t ls x) t in
+            rw q
+            (switch-tabled lines t named ls here u r.tabled en' (marks-put e) (rw q at (tables-here r early told-last e)) (spelt-rest r early) name-spells
+            ((names-kept r.judging (plain r early)).marked (from g) own-mark.0) size kept_here e),
+      )
 
 -- ---- it is read
 
-pub listable : {s : List ℕ} {n : ℕ} {h : Head} → Headed s n h → {held : ℕ} {en : List ℕ} {tx : List (Option Quoted)} → length s ≤ limit.text → held ≤ limit.entries → length en ≡ limit.entries → length tx ≡ limit.entries
-    → Listable s h.op held en tx
-listable k low most entries texts =
-    record { stands = k.stands; low = low; held_most = most; entry_room = entries; text_room = texts }
+pub listable : {s : List ℕ} {n : ℕ} {h : Head} → Headed s n h → length s ≤ limit.text → Listable s h.op
+listable k low = record { stands = k.stands; low = low }
 
 module _ {s : List ℕ} {h : Head} (some : is_switch (head_keyword h) ≡ true) {named : Bool} (named-is : named ≡ is_by_name (head_keyword h)) where
   -- there is room for the mark of its name
@@ -200,27 +218,28 @@ module _ {s : List ℕ} {h : Head} (some : is_switch (head_keyword h) ≡ true) 
   name-inside j = omega (arith, inside j.headed (switch-acts j.headed some named-is), j.low, j.before.names_few, j.tells.names.count_is, j.tells.names.room)
 
   -- v is the verdict of all questions before 11, where u is that of the questions of the head
-  module _ {held : ℕ} {en : List ℕ} {tx : List (Option Quoted)} {l : Listed} {en' : List ℕ} {tx' : List (Option Quoted)} (list : ReadsList s h.op named h.worst held en tx l en' tx') where
+  module _ {l : Listed} {em : List ℕ} {tx : List (Option Quoted)} (list : ReadsList s h.op named h.worst l em tx) where
     pub whole-list : {n : ℕ} → Headed s n h → l.worst ≡ worst (statement_at s n)
     whole-list k = whole k (switch-acts k some named-is) list.worst_is
 
-    module _ {lines : List ℕ} {g : Progress} {ms c sw : List ℕ} (u v : told.Verdict) (asked : HeadAsked s l.worst g h ms (Some h.first) u)
-        (all : verdict_of v ≡ then (verdict_of u) (decided 2 l.fault)) (held-is : held ≡ cell (table_of c) 3)
+    module _ {lines : List ℕ} {g : Progress} {ms c sw en : List ℕ} (u v : told.Verdict) (asked : HeadAsked s l.worst g h ms (Some h.first) u)
+        (all : verdict_of v ≡ then (verdict_of u) (decided 2 l.fault)) {held : ℕ} (held-is : held ≡ cell (table_of c) 3) (room : length em ≡ limit.entries - held)
         {b : Declaration} (b_is : b ≡ declaration h.op named (get_or ms (from g) 0) l) where
       early-switch : (n : ℕ) (d : Draft) → Reading s lines n d g h ms c sw en → first_no (early_questions d (statement_at s n)) ≡ verdict_of v
       early-switch n d r =
           let k = r.judging.headed in
           early-told d (statement_at s n) (asked n d r.judging (whole-list k) (λ e. zero-here k (switch-acts k some named-is))) (switch-asked k some named-is list.fault_is) all
 
-      pub declarable-switch : {n : ℕ} {d : Draft} → Reading s lines n d g h ms c sw en → length tx' ≡ limit.entries → v ≡ Ok tt → DeclarableSwitch s b c sw tx'
-      declarable-switch {n} {d} r room e =
-          subst (λ (y : Declaration). DeclarableSwitch s y c sw tx') (sym b_is)
-          (switch-declarable r (answered _ (early-switch n d r ∙ ap verdict_of e)) some named-is (rw held-is at list) room)
+      pub declarable-switch : {n : ℕ} {d : Draft} → Reading s lines n d g h ms c sw en → length tx ≡ limit.entries → {k : ℕ} → k ≡ min l.words (limit.entries - held) → v ≡ Ok tt
+          → DeclarableSwitch s b c sw (take k tx)
+      declarable-switch {n} {d} r long {k} few e =
+          subst (λ (y : Declaration). DeclarableSwitch s y c sw (take k tx)) (sym b_is)
+          (switch-declarable r (answered _ (early-switch n d r ∙ ap verdict_of e)) some named-is list (rw held-is at room) long (rw held-is at few))
 
-      pub read-switch : (w : told.Verdict) {c' sw' : List ℕ} → Admits (λ f. DeclaresSwitch s b c sw f c' sw') v w c c' → length en' ≡ length en
-          → {y : Read} → Finishes g h (record { section = g.section; after = None }) ms w y → Reads s lines g h ms c sw en (answers y l.next) c' sw' en'
-      read-switch w {c'} {sw'} t size z =
+      pub read-switch : (w : told.Verdict) {c' sw' : List ℕ} → Admits (λ f. DeclaresSwitch s b c sw f c' sw') v w c c' → (later : List ℕ) {en' : List ℕ} → en' ≡ take held en ++ (em ++ later)
+          → length en' ≡ length en → {y : Read} → Finishes g h (unchanged g) ms w y → Reads s lines g h ms c sw en (answers y l.next) c' sw' en'
+      read-switch w {c'} {sw'} t later parts size z =
           read_as early-switch
-          (λ n d r q f u. switch-last r q some named-is (rw held-is at list) f (subst (λ (y : Declaration). DeclaresSwitch s y c sw f c' sw') b_is u) size)
+          (λ n d r q f u. switch-last r q some named-is list (rw held-is at room) f (subst (λ (y : Declaration). DeclaresSwitch s y c sw f c' sw') b_is u) later (rw held-is at parts) size)
           (λ n d r q. acting r q (switch-acts r.judging.headed some named-is))
           (λ n k. ends-behind k (there k (switch-acts k some named-is)) list.ends) w t z

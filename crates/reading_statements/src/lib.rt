@@ -5,12 +5,13 @@ ghost use Rattle.std.specs.Prelude.{◌≡◌, ◌&&◌, ◌≤◌, eqb};
 ghost use Rattle.statements.specs.Faults.{verdict_of};
 ghost use Rattle.statements.specs.StatementAt.{stops};
 ghost use Rattle.std.specs.Prelude.{Ok};
+ghost use Rattle.std.specs.Option.{is_none};
 ghost use Rattle.declaring_switches.specs.Below.Declaring.{Declarable, DeclaresValues};
 ghost use Rattle.declaring_switches.specs.Switches.{DeclarableSwitch, DeclaresSwitch};
 ghost use Rattle.judging.specs.Below.Names.{Repeatable};
 ghost use Rattle.progress.specs.Advancing.{Advanceable};
 ghost use Rattle.words.specs.Keywords.{is_english};
-ghost use Rattle.reading_statements.specs.Admitting.{declaration, Admits};
+ghost use Rattle.reading_statements.specs.Admitting.{declaration, unchanged, Admits};
 ghost use Rattle.reading_statements.specs.Asking.{OperatorAsked, names_verdict, HeadAskable, HeadAsked};
 ghost use Rattle.reading_statements.specs.ReadingStatements.{Finishes, InstrReadable, ReadsInstr, SwitchReadable, ReadsSwitch, Endable, EndingTold, EndingReadable, ReadsEnding, Readable, ReadsStatement};
 
@@ -27,30 +28,29 @@ use progress::from_headings::{Rest, after_fault, read_rest, section_fault, secti
 use progress::{Progress, progress_after};
 use statements::{Fault, Question, Refusal, Verdict, decide, first_of, stops};
 use table::Table;
-use words::Edition;
 
 // What is known after a statement, or its refusal; and where the next statement begins, unless it is the last.
-#[derive(Clone, Copy)]
+#[derive(Clone, Copy, Debug, PartialEq, Eq)]
 pub struct Answer {
     pub read: Result<Progress, Refusal>,
     pub next: Option<usize>,
 }
 
 // What a statement without an instruction or a switch says: the mark of the section's name from then on, and the place at fault behind KONS or KONP.
-#[derive(Clone, Copy)]
+#[derive(Clone, Copy, Debug, PartialEq, Eq)]
 pub struct Ending {
     pub section: Option<u32>,
     pub after: Fault,
 }
 
 // Question 00 of the first statement, whose fault is `zero`, 10 of a later one in a section of an edition.
-fn ask_operator(head: Head, first: bool, edition: Edition, zero: Fault) -> Verdict
-    ensures { OperatorAsked head first (is_english edition) zero result }
+fn ask_operator(head: Head, p: Progress, zero: Fault) -> Verdict
+    ensures { OperatorAsked head (is_none p.section) (is_english p.edition) zero result }
 {
-    if first {
-        return decide(Question::Heading, zero);
+    match p.section {
+        None => decide(Question::Heading, zero),
+        Some(_) => decide(Question::Operator, operator_fault(head, p.edition)),
     }
-    decide(Question::Operator, operator_fault(head, edition))
 }
 
 // Questions 06 and 70 of the labels whose marks stand from index `from` to index `to`. What is at fault in 70 is found first, which
@@ -83,7 +83,7 @@ fn ask_head(
     ensures { HeadAsked text.now worst p head names.now zero result }
 {
     worst?;
-    let operator = ask_operator(head, p.section.is_none(), p.edition, zero);
+    let operator = ask_operator(head, p, zero);
     let labels = decide(
         Question::SwitchLabels,
         label_fault(head, &names[p.first_waiting()..head.names]),
@@ -145,6 +145,16 @@ fn finish(
     Ok(progress_after(p, head, e.section, e.after, names))
 }
 
+// What an instruction or a switch says of the section: its name stays as it was.
+fn unchanged(p: Progress) -> Ending
+    ensures { result ≡ unchanged p }
+{
+    Ending {
+        section: p.section,
+        after: None,
+    }
+}
+
 // A statement with the instruction of an operator.
 fn read_instruction(
     text: &[u8],
@@ -177,12 +187,8 @@ fn read_instruction(
     );
     let labels = &names[p.first_waiting()..head.names];
     let verdict = admit_instruction(text, early, i, labels, table);
-    let e = Ending {
-        section: p.section,
-        after: None,
-    };
     Answer {
-        read: finish(verdict, p, head, e, names),
+        read: finish(verdict, p, head, unchanged(p), names),
         next: a.next,
     }
 }
@@ -215,19 +221,23 @@ fn read_switch(
 {
     let op = head.op;
     let named = is_by_name(head.keyword());
-    let mut texts = [None; Machine::ENTRIES];
     let held = Table { cells: table }.entries();
-    let l = read_list(text, op, named, head.worst, held, entries, &mut texts);
+    let mut texts = [None; Machine::ENTRIES];
+    let l = read_list(
+        text,
+        op,
+        named,
+        head.worst,
+        &mut entries[held..],
+        &mut texts,
+    );
     let asked = ask_head(text, l.worst, head, Some(head.first), p, names);
     let d = switch_of(op, named, names[p.first_waiting()], l);
     let early = first_of(asked, decide(Question::Argument, l.fault));
-    let verdict = admit_switch(text, early, d, table, switches, &texts);
-    let e = Ending {
-        section: p.section,
-        after: None,
-    };
+    let own = &texts[..l.words.min(Machine::ENTRIES - held)];
+    let verdict = admit_switch(text, early, d, table, switches, own);
     Answer {
-        read: finish(verdict, p, head, e, names),
+        read: finish(verdict, p, head, unchanged(p), names),
         next: l.next,
     }
 }

@@ -2,7 +2,8 @@
 use mathlib.Core.Path.{◌≡◌, refl, ap, sym, ◌∙◌}
 use mathlib.Core.Bool.{Bool, true, false, cond, not, ◌&&◌, and-true, and-false, and_assoc, true≢false, false≢true}
 use mathlib.Core.List.{List, [], ◌∷◌, ◌++◌}
-use Rattle.std.proofs.Common.{position, Some, None, length-drop, ltb-true, ltb-false}
+use Rattle.std.proofs.Common.{position, Option, Some, None, Ok, ok_or, IsSomeAnd, MatchOption, length-drop, ltb-true, ltb-false, subst}
+use Rattle.std.proofs.lemmas.Option.{none-some}
 use Rattle.std.specs.List.{position_or_len}
 use Rattle.std.proofs.lemmas.List.Recursion.{is_position_or_len}
 use Prim.Native.Nat.{ℕ, suc, ◌+◌, ◌-◌, ◌≤◌, ◌<◌}
@@ -13,10 +14,10 @@ use native.Mathlib.Omega.{arith}
 use lib.Dec.{eqb, ltb}
 use lib.ListN.{length, get_or, take, drop, drop_of_length-le, length-append, get_or-eq_default}
 use lib.Seq.{drop-cons, get_or-drop}
-use mir.Val.{bool_byte}
 use borrow.Author.Tests.{eqb-true, eqb-false, eq-eqb, ne_eqb}
 use Rattle.std.specs.List.{starts_with}
 use Rattle.std.proofs.lemmas.List.{take_rest}
+use Rattle.std.proofs.lemmas.Bool.{and_parts}
 use Rattle.syntax.specs.Items.{Sort, sort_of, same_sort, ends_text, takes_next, char_of, allows, Mode, opens, closes, begins, mode_after}
 use Rattle.syntax.specs.Items.Sort.{separator, word, colon, end, text, wrong}
 use Rattle.syntax.specs.Items.Stage.{first-star, inside, last-slash}
@@ -24,7 +25,8 @@ use Rattle.syntax.specs.Items.Mode.{outside, in_comment}
 use Rattle.syntax.specs.Scan.{word_length, text_length, text_chars, text_allowed, is_closed, passes, in_gap, gap_end, gap_from}
 use Rattle.syntax.specs.Scan.Gap.{clear, unclosed}
 use Rattle.std.specs.Bool.{then_some}
-use Rattle.scanner.specs.Scans.{gap_at, text_bytes, WordEnd, Scanned}
+use Rattle.scanner.specs.declared.Unclosed.{Unclosed}
+use Rattle.scanner.specs.Scans.{gap_at, text_bytes, Closing, Passed, WordEnd, Scanned}
 use Rattle.scanner.proofs.Bytes.{spaces, spaces-separate}
 
 -- Places
@@ -125,10 +127,6 @@ pub comment-on : (s : List ℕ) (i p : ℕ) → i < length s → closes (get_or 
 unfolding in_gap mode_after
 comment-on s i p h e = sym (gap-on s (in_comment p inside) i h refl ∙ rw e refl)
 
-both : (t u : Bool) → (t && u) ≡ true → (t ≡ true) × (u ≡ true)
-both true u h = (refl, h)
-both false u h = absurd (false≢true h)
-
 -- a byte that is not 0 is one of the text
 pub in_text : (s : List ℕ) (i k : ℕ) → get_or s i 0 ≡ suc k → i < length s
 in_text s i k e = go (dec_lt i (length s))
@@ -141,7 +139,7 @@ pub comment-closed : (s : List ℕ) (i p : ℕ) → i < length s → closes (get
     → (i + 1 < length s) × (gap_at s (i + 2) ≡ gap_from (in_comment p inside) i (drop i s))
 unfolding in_gap mode_after
 comment-closed s i p h e =
-    let l : i + 1 < length s = in_text s (i + 1) 46 (eqb-true (get_or s (i + 1) 0) 47 (both (eqb (get_or s i 0) 42) (eqb (get_or s (i + 1) 0) 47) e).1) in
+    let l : i + 1 < length s = in_text s (i + 1) 46 (eqb-true (get_or s (i + 1) 0) 47 (and_parts (eqb (get_or s i 0) 42) (eqb (get_or s (i + 1) 0) 47) e).1) in
     let z : gap_from (in_comment p inside) i (drop i s) ≡ gap_from (in_comment p last-slash) (i + 1) (drop (i + 1) s) = gap-on s (in_comment p inside) i h refl ∙ rw e refl in
     let two : i + 1 + 1 ≡ i + 2 = omega arith in
     (l, sym (z ∙ gap-on s (in_comment p last-slash) (i + 1) l refl ∙ rw two refl))
@@ -178,12 +176,20 @@ pub pass-comment : (s : List ℕ) (i : ℕ) → i < length s → opens (get_or s
     → (i + 1 < length s) × (gap_at s i ≡ gap_from (in_comment i inside) (i + 2) (drop (i + 2) s))
 unfolding in_gap passes sort_of mode_after begins
 pass-comment s i h q =
-    let t = both (eqb (get_or s i 0) 47) (eqb (get_or s (i + 1) 0) 42) q in
+    let t = and_parts (eqb (get_or s i 0) 47) (eqb (get_or s (i + 1) 0) 42) q in
     let e : get_or s i 0 ≡ 47 = eqb-true (get_or s i 0) 47 t.0 in
     let o : get_or s (i + 1) 0 ≡ 42 = eqb-true (get_or s (i + 1) 0) 42 t.1 in
     let l : i + 1 < length s = in_text s (i + 1) 41 o in
     let two : i + 1 + 1 ≡ i + 2 = omega arith in
     (l, gap-on s outside i h (rw (e, o) refl) ∙ rw (e, o) (gap-on s (in_comment i first-star) (i + 1) l refl ∙ rw two refl))
+
+-- the place behind a comment, if it is closed
+pub pass-told : (s : List ℕ) (n : ℕ) → gap_at s n ≡ gap_from (in_comment n inside) (n + 2) (drop (n + 2) s) → {u : Unclosed} → u.0 ≡ n
+    → (r : Option ℕ) → Closing s (n + 2) r → (m : Option (Option ℕ)) → MatchOption r (m ≡ None) (λ at. IsSomeAnd m (λ x. x ≡ Some at)) → Passed s n (ok_or m u)
+pass-told s n g o None h None e = (o, g ∙ h n)
+pass-told s n g o None h (Some x) e = absurd (none-some _ (sym e))
+pass-told s n g o (Some at) h None e = absurd e
+pass-told s n g o (Some at) h (Some x) e = subst (λ (y : Option ℕ). Passed s n (Ok y)) (sym e) (omega (arith, h.0), h.1, g ∙ h.2 n)
 
 -- Texts
 
@@ -229,10 +235,6 @@ count_by false false b h = rw h refl
 -- a byte gives one character, unless it takes the next
 pub given : (star : Bool) (b : ℕ) → length (char_of star b) ≡ cond (not (takes_next star b)) 1 0
 given star b = count_by star (eqb b 42) b refl
-
-pub byte-is : (t : Bool) → bool_byte t ≡ cond t 1 0
-byte-is true = refl
-byte-is false = refl
 
 pub at_most_one : (t : Bool) → cond {A = ℕ} t 1 0 ≤ 1
 at_most_one true = omega arith

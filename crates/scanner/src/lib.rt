@@ -92,6 +92,7 @@ fn allows(star: bool, b: u8) -> bool
 }
 
 // whether it ends the text,
+#[tactic(auto, unfolding(syntax::specs::Items::ends_text))]
 fn ends_text(star: bool, b: u8) -> bool
     ensures { result ≡ ends_text star b }
 {
@@ -99,6 +100,7 @@ fn ends_text(star: bool, b: u8) -> bool
 }
 
 // and whether it is a star that takes the next.
+#[tactic(auto, unfolding(syntax::specs::Items::takes_next))]
 pub fn takes_next(star: bool, b: u8) -> bool
     ensures { result ≡ takes_next star b }
 {
@@ -131,10 +133,7 @@ fn pass(text: &[u8], n: usize) -> Result<Option<usize>, Unclosed>
     if !text[n..].starts_with(b"/*") {
         return Ok(None);
     }
-    match past_comment(text, n + 2) {
-        Some(at) => Ok(Some(at)),
-        None => Err(Unclosed(n)),
-    }
+    past_comment(text, n + 2).map(Some).ok_or(Unclosed(n))
 }
 
 // The place behind separators and comments.
@@ -166,10 +165,7 @@ pub fn word_end(text: &[u8], n: usize) -> usize
     requires { n ≤ length text.now }
     ensures { WordEnd text.now n result }
 {
-    match other_byte(&text[n..]) {
-        Some(k) => n + k,
-        None => text.len(),
-    }
+    other_byte(&text[n..]).map_or(text.len(), |k| n + k)
 }
 
 // The bytes of a text from `n`, the place after its apostrophe, on. Inlined, as the functions of `lexer` that call it.

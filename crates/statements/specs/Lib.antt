@@ -1,11 +1,13 @@
 pub mod StatementAt
 pub mod StatementLaws
+pub mod Places
 pub mod LowestLaws
 pub mod PlaceLaws
 pub mod Questions
 pub mod QuestionLaws
 pub mod Faults
 pub mod FaultLaws
+pub mod LowerLaws
 pub mod Groups
 pub mod Checks
 pub mod CheckLaws

@@ -1,16 +1,12 @@
 -- The lowest of some places: of one that is among them and before which none stands.
-use Rattle.std.specs.Prelude.{◌≡◌, refl, Bool, List, [], ◌∷◌, ◌++◌, ℕ, ◌≤◌, min, T, leb}
+use Rattle.std.specs.Prelude.{◌≡◌, refl, List, [], ◌∷◌, ◌++◌, ℕ, ◌≤◌, min, T, leb}
 use Rattle.std.proofs.Common.{ap, ◌∙◌, arith, leb→le}
 use Rattle.std.proofs.Math.Nat.{min-eq_left}
-use Rattle.layout.specs.Below.Lists.{all}
 use Rattle.layout.specs.Below.ListLaws.{T-both, all_head, all_tail}
 use Rattle.std.specs.Prelude.{Some}
+use Rattle.statements.specs.Places.{none_before}
 use Rattle.statements.specs.StatementAt.{fault_of}
 use Rattle.lexer.specs.Below.SyntaxVerdict.{lowest}
-
--- all of these places are p or later
-abbrev pub none_before : ℕ → List ℕ → Bool
-none_before p ps = all (leb p) ps
 
 pub none-before-both : (p : ℕ) (xs ys : List ℕ) → T (none_before p xs) → T (none_before p ys) → T (none_before p (xs ++ ys))
 none-before-both p [] ys h k = k

@@ -10,14 +10,9 @@ use Rattle.lexer.specs.Below.Items.Mode.{outside, in_word, in_comment, in_text}
 use Rattle.lexer.specs.Below.SyntaxVerdict.{lowest}
 use Rattle.lexer.specs.MovedLaws.{itself-case, begins-case}
 use Rattle.lexer.specs.Tokens.{items_from}
-use Rattle.statements.specs.LowestLaws.{none_before, lowest-first}
+use Rattle.statements.specs.LowestLaws.{lowest-first}
+use Rattle.statements.specs.Places.{none_before, stands_from, all_from}
 use Rattle.statements.specs.StatementAt.{statement_at}
-
-abbrev pub stands_from : ℕ → Item → Bool
-stands_from p i = leb p i.at && all (leb p) i.colon
-
-abbrev pub all_from : ℕ → List Item → Bool
-all_from p js = all (stands_from p) js
 
 all-joined : (p : ℕ) (xs ys : List Item) → T (all_from p xs) → T (all_from p ys) → T (all_from p (xs ++ ys))
 all-joined p [] ys h k = k

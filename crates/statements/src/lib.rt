@@ -93,10 +93,7 @@ pub fn refused(question: Question, at: usize) -> Verdict
 pub fn decide(question: Question, f: Fault) -> Verdict
     ensures { verdict_of result ≡ decided (question_number question) f }
 {
-    match f {
-        None => Ok(()),
-        Some(at) => refused(question, at),
-    }
+    f.map_or(Ok(()), |at| refused(question, at))
 }
 
 // A verdict, and where it is yes another.

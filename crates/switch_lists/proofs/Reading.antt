@@ -9,6 +9,7 @@ use lib.Dec.{eqb, leb, ltb}
 use lib.ListN.{length, get_or, take, drop, set, length-append, length-map, drop_of_length-le, get_or-append}
 use lib.Seq.{take-suc-set, get_or-set_same, get_or-set_other, get_or-append_seam, drop-append-le}
 use borrow.Author.Tests.{eqb-true, eqb-false, lt-ltb, leb-true, leb-false}
+use Rattle.lists.specs.BoolLaws.{sign-most}
 use Rattle.acceptance.proofs.RowLaws.{drop-none}
 use Rattle.arguments.specs.LeftLaws.{Passing, passing-on, passed-worst, passed-end}
 use Rattle.arguments.specs.Valued.{Ordered, quoted_of}
@@ -18,12 +19,13 @@ use Rattle.drafts.specs.Marks.{mark}
 use Rattle.statements.specs.Checks.{token_verdict}
 use Rattle.statements.specs.FaultLaws.{fault-both, no-fault}
 use Rattle.statements.specs.Faults.{lower}
-use Rattle.heads.specs.HeadLaws.{filled-option}
+use Rattle.heads.specs.HeadLaws.{filled-option, place-if}
 use Rattle.lexer.specs.declared.Token.{Token}
 use Rattle.lexer.specs.Tokens.{item_of, Stands, NextToken}
 use Rattle.lexer.proofs.Finding.{one_sort}
 use Rattle.scanner.specs.declared.Sort.{Sort}
 use Rattle.scanner.specs.Sorts.{sort_in}
+use Rattle.std.specs.Bool.{then_some}
 use Rattle.std.specs.Option.{is_some, option_to_list}
 use Rattle.std.proofs.Common.{inl, inr}
 use Rattle.lists.specs.Lists.{filled, if_any, keep}
@@ -53,10 +55,6 @@ module _ {X : Type 0} (d : X) {xs : List X} {k : ℕ} {v : X} {ys : List X} (h :
 one-long : {X : Type 0} (w : Bool) (x : X) → length (cond w (x ∷ []) []) ≡ cond w 1 0
 one-long true x = refl
 one-long false x = refl
-
-one-most : (b : Bool) → cond b 1 0 ≤ 1
-one-most true = omega arith
-one-most false = omega arith
 
 -- ---- question 02
 
@@ -139,16 +137,15 @@ module _ {s : List ℕ} {n : ℕ} {goes_by_name : Bool} {fault : Fault} {b : Bef
 
 -- ---- words
 
-pub record Worded (s : List ℕ) (n held : ℕ) (en₀ : List ℕ) (over : Fault) (words i : ℕ) (en : List ℕ) : Type 0 where
+pub record Worded (s : List ℕ) (n : ℕ) (over : Fault) (words i : ℕ) (en : List ℕ) : Type 0 where
   pub items : List Item
   pub items_are : keep (is word) (statement_at s n) ≡ items ++ keep (is word) (statement_at s i)
   pub count : length items ≡ words
-  pub over_is : over ≡ fault_of (drop (128 - held) (places items))
-  pub marks : held + words ≤ 128 → take (held + words) en ≡ take held en₀ ++ map mark items
-  pub size : length en ≡ 128
+  pub over_is : over ≡ fault_of (drop (length en) (places items))
+  pub marks : words ≤ length en → take words en ≡ map mark items
 
-module _ {s : List ℕ} {n held : ℕ} {en₀ : List ℕ} {over : Fault} {words i : ℕ} {en : List ℕ} (u : Worded s n held en₀ over words i en) (low : held ≤ 128)
-    {t : Token} (k : NextToken s i t) (z : stops t.sort ≡ false) {after : Bool} {tx : List (Option Quoted)} {em : List ℕ} {ty : List (Option Quoted)} (p : PutsItem t after (held + words) en tx em ty)
+module _ {s : List ℕ} {n : ℕ} {over : Fault} {words i : ℕ} {en : List ℕ} (u : Worded s n over words i en)
+    {t : Token} (k : NextToken s i t) (z : stops t.sort ≡ false) {after : Bool} {tx : List (Option Quoted)} {em : List ℕ} {ty : List (Option Quoted)} (p : PutsItem t after words en tx em ty)
     (l : length em ≡ length en) where
   abbrev own_word : Bool → List Item
   own_word w = cond w (item_of s t ∷ []) []
@@ -161,48 +158,48 @@ module _ {s : List ℕ} {n held : ℕ} {en₀ : List ℕ} {over : Fault} {words 
       ap (keep (is word)) (at_item k z)
       ∙ (elim (is_word t) as (λ w. cond w (item_of s t ∷ later) later ≡ own_word w ++ later) [ true ↦ refl | false ↦ refl ])
 
+  over-now : over ≡ fault_of (drop (length em) (places u.items))
+  over-now = rw l u.over_is
+
   -- one that has no room is the first in excess
-  over-next : (w beyond : Bool) → leb 128 (held + words) ≡ beyond
-      → fault_of (drop (128 - held) (places (u.items ++ own_word w))) ≡ lower (fault_of (drop (128 - held) (places u.items))) (fault_of (one_if (w && beyond) t.at))
-  over-next w beyond e = ap (λ (ps : List ℕ). fault_of (drop (128 - held) ps)) (map-append (λ (j : Item). j.at) u.items (own_word w)) ∙ go w beyond e
+  over-next : (w beyond : Bool) → leb (length em) words ≡ beyond
+      → fault_of (drop (length em) (places (u.items ++ own_word w))) ≡ lower (fault_of (drop (length em) (places u.items))) (fault_of (one_if (w && beyond) t.at))
+  over-next w beyond e = ap (λ (ps : List ℕ). fault_of (drop (length em) ps)) (map-append (λ (j : Item). j.at) u.items (own_word w)) ∙ go w beyond e
     where
       many : length (places u.items) ≡ words
       many = length-map u.items (λ (j : Item). j.at) ∙ u.count
 
-      go : (w beyond : Bool) → leb 128 (held + words) ≡ beyond
-          → fault_of (drop (128 - held) (places u.items ++ places (own_word w))) ≡ lower (fault_of (drop (128 - held) (places u.items))) (fault_of (one_if (w && beyond) t.at))
+      go : (w beyond : Bool) → leb (length em) words ≡ beyond
+          → fault_of (drop (length em) (places u.items ++ places (own_word w))) ≡ lower (fault_of (drop (length em) (places u.items))) (fault_of (one_if (w && beyond) t.at))
       go true true e =
-          ap fault_of (drop-append-le (128 - held) (places u.items) (t.at ∷ []) (omega (arith, many, leb-true 128 (held + words) e)))
-          ∙ fault-both (drop (128 - held) (places u.items)) (t.at ∷ [])
+          ap fault_of (drop-append-le (length em) (places u.items) (t.at ∷ []) (omega (arith, many, leb-true (length em) words e)))
+          ∙ fault-both (drop (length em) (places u.items)) (t.at ∷ [])
       go true false e =
-          let few : held + words < 128 = leb-false 128 (held + words) e in
+          let few : words < length em = leb-false (length em) words e in
           let long : length (places u.items ++ (t.at ∷ [])) ≡ words + 1 = length-append (places u.items) (t.at ∷ []) ∙ ap (λ (m : ℕ). m + 1) many in
-          rw (drop_of_length-le (places u.items ++ (t.at ∷ [])) {i = 128 - held} (omega (arith, long, few)), drop_of_length-le (places u.items) {i = 128 - held} (omega (arith, many, few)))
-      go false b e = rw (append-nil (places u.items)) (ap fault_of (sym (append-nil (drop (128 - held) (places u.items)))) ∙ fault-both (drop (128 - held) (places u.items)) [])
+          rw (drop_of_length-le (places u.items ++ (t.at ∷ [])) {i = length em} (omega (arith, long, few)), drop_of_length-le (places u.items) {i = length em} (omega (arith, many, few)))
+      go false b e = rw (append-nil (places u.items)) (ap fault_of (sym (append-nil (drop (length em) (places u.items)))) ∙ fault-both (drop (length em) (places u.items)) [])
 
-  marks-next : (w : Bool) → is_word t ≡ w → held + (words + cond w 1 0) ≤ 128
-      → take (held + (words + cond w 1 0)) em ≡ take held en₀ ++ map mark (u.items ++ own_word w)
+  marks-next : (w : Bool) → is_word t ≡ w → words + cond w 1 0 ≤ length em → take (words + cond w 1 0) em ≡ map mark (u.items ++ own_word w)
   marks-next true e h =
       let m = mark (item_of s t) in
-      let here : held + words < length en = omega (arith, h, u.size) in
-      let put : em ≡ set en (held + words) m =
-      (p.word_mark e).is ∙ rw (lt-ltb (held + words) (length en) here, k.stands.count) in
-      let a : held + (words + 1) ≡ suc (held + words) = omega arith in
-      rw (a, put, take-suc-set en (held + words) m here, u.marks (omega (arith, h)), map-append mark u.items) (append_assoc (take held en₀) (map mark u.items) (m ∷ []))
+      let here : words < length en = omega (arith, h, l) in
+      let put : em ≡ set en words m = (p.word_mark e).is ∙ rw (lt-ltb words (length en) here, k.stands.count) in
+      let a : words + 1 ≡ suc words = omega arith in
+      rw (a, put, take-suc-set en words m here, u.marks (omega (arith, here)), map-append mark u.items) refl
   marks-next false e h =
-      let a : held + (words + 0) ≡ held + words = omega arith in
-      rw (a, p.same_marks e, append-nil u.items) (u.marks (omega (arith, h)))
+      let a : words + 0 ≡ words = omega arith in
+      rw (a, p.same_marks e, append-nil u.items) (u.marks (omega (arith, h, l)))
 
-  pub worded-more : {r : Fault} {m : ℕ} → r ≡ lower over (fault_of (one_if (is_word t && leb 128 (held + words)) t.at)) → m ≡ words + cond (is_word t) 1 0
-      → Worded s n held en₀ r m t.next em
+  pub worded-more : {r : Fault} {m : ℕ} → r ≡ lower over (fault_of (one_if (is_word t && leb (length em) words) t.at)) → m ≡ words + cond (is_word t) 1 0
+      → Worded s n r m t.next em
   worded-more {r} {m} f g =
       record {
         items = u.items ++ own_word (is_word t);
         items_are = u.items_are ∙ rw items-next (sym (append_assoc u.items (own_word (is_word t)) later));
         count = rw (length-append u.items, u.count, one-long (is_word t) (item_of s t), g);
-        over_is = rw (f, u.over_is, over-next (is_word t) (leb 128 (held + words)) refl);
+        over_is = rw (f, over-now, over-next (is_word t) (leb (length em) words) refl);
         marks = rw g (marks-next (is_word t) refl);
-        size = l ∙ u.size;
       }
 
 -- ---- texts
@@ -211,34 +208,33 @@ module _ {s : List ℕ} {n held : ℕ} {en₀ : List ℕ} {over : Fault} {words 
 abbrev left_texts : Bool → List Item → List (List Item)
 left_texts w js = cond w (text_first js ∷ []) [] ++ entry_texts js
 
-pub record Texted (s : List ℕ) (n held words : ℕ) (after : Bool) (i : ℕ) (tx : List (Option Quoted)) : Type 0 where
+pub record Texted (s : List ℕ) (n words : ℕ) (after : Bool) (i : ℕ) (tx : List (Option Quoted)) : Type 0 where
   pub rows : List (List Item)
   pub rows_are : entry_texts (statement_at s n) ≡ rows ++ left_texts after (statement_at s i)
   pub count : length rows + cond after 1 0 ≡ words
-  pub named : (k : ℕ) → k < length rows → held + k < 128 → TextCell s (get_or tx (held + k) None) (get_or rows k [])
-  pub none_yet : after ≡ true → held + length rows < 128 → get_or tx (held + length rows) None ≡ None
-  pub size : length tx ≡ 128
+  pub named : (k : ℕ) → k < length rows → k < length tx → TextCell s (get_or tx k None) (get_or rows k [])
+  pub none_yet : after ≡ true → length rows < length tx → get_or tx (length rows) None ≡ None
 
 -- one row more, whose cell names its text
-rows_named : (s : List ℕ) (held : ℕ) (ty : List (Option Quoted)) (rows : List (List Item)) (row : List Item) (after : Bool)
-    → ((j : ℕ) → j < length rows → held + j < 128 → TextCell s (get_or ty (held + j) None) (get_or rows j []))
-    → (after ≡ true → held + length rows < 128 → TextCell s (get_or ty (held + length rows) None) row)
-    → (j : ℕ) → j < length (rows ++ cond after (row ∷ []) []) → held + j < 128 → TextCell s (get_or ty (held + j) None) (get_or (rows ++ cond after (row ∷ []) []) j [])
-rows_named s held ty rows row true old new j m h =
-    elim (dec_lt j (length rows)) as (λ d. TextCell s (get_or ty (held + j) None) (get_or (rows ++ (row ∷ [])) j [])) [
+rows_named : (s : List ℕ) (ty : List (Option Quoted)) (rows : List (List Item)) (row : List Item) (after : Bool)
+    → ((j : ℕ) → j < length rows → j < length ty → TextCell s (get_or ty j None) (get_or rows j []))
+    → (after ≡ true → length rows < length ty → TextCell s (get_or ty (length rows) None) row)
+    → (j : ℕ) → j < length (rows ++ cond after (row ∷ []) []) → j < length ty → TextCell s (get_or ty j None) (get_or (rows ++ cond after (row ∷ []) []) j [])
+rows_named s ty rows row true old new j m h =
+    elim (dec_lt j (length rows)) as (λ d. TextCell s (get_or ty j None) (get_or (rows ++ (row ∷ [])) j [])) [
       | yes l ↦ rw (get_or-append rows (row ∷ []) [] j l) (old j l h)
       | no l ↦
           let q : j ≡ length rows = omega (arith, m, length-append rows (row ∷ [])) in
           rw (q, get_or-append_seam rows row [] []) (new refl (rw q at h))
     ]
-rows_named s held ty rows row false old new j m h = rw (append-nil rows) (old j (omega (arith, m, ap length (append-nil rows))) h)
+rows_named s ty rows row false old new j m h = rw (append-nil rows) (old j (omega (arith, m, ap length (append-nil rows))) h)
 
 -- the text of a token
 names-item : {s : List ℕ} {t : Token} → Stands s t → length s ≤ 32768 → is_text t ≡ true → NamesItem s (quoted_of t) (item_of s t)
 names-item {s} {t} h low e = record { place = refl; sort = e; names = names-text (record { stands = h; low = low }) (one_sort (Some Sort.Text) t.sort e) }
 
-module _ {s : List ℕ} {n held words : ℕ} {after : Bool} {i : ℕ} {tx : List (Option Quoted)} (u : Texted s n held words after i tx) (low : length s ≤ 32768)
-    {t : Token} (k : NextToken s i t) (z : stops t.sort ≡ false) {en em : List ℕ} {ty : List (Option Quoted)} (p : PutsItem t after (held + words) en tx em ty)
+module _ {s : List ℕ} {n words : ℕ} {after : Bool} {i : ℕ} {tx : List (Option Quoted)} (u : Texted s n words after i tx) (low : length s ≤ 32768)
+    {t : Token} (k : NextToken s i t) (z : stops t.sort ≡ false) {en em : List ℕ} {ty : List (Option Quoted)} (p : PutsItem t after words en tx em ty)
     (l : length ty ≡ length tx) where
   abbrev own_row : Bool → List (List Item)
   own_row w = cond w (cond (is_text t) (item_of s t ∷ []) [] ∷ []) []
@@ -251,7 +247,7 @@ module _ {s : List ℕ} {n held words : ℕ} {after : Bool} {i : ℕ} {tx : List
   all-rows = rw (length-append u.rows, one-long after (cond (is_text t) (item_of s t ∷ []) [])) u.count
 
   -- the cells of other entries stay
-  stays : (j : ℕ) → (j ≡ held + words → ⊥) → (after ≡ true → j ≡ held + words - 1 → ⊥) → get_or ty j None ≡ get_or tx j None
+  stays : (j : ℕ) → (j ≡ words → ⊥) → (after ≡ true → j ≡ words - 1 → ⊥) → get_or ty j None ≡ get_or tx j None
   stays j f g = go (is_word t) (is_text t) after refl refl refl
     where
       go : (a b c : Bool) → is_word t ≡ a → is_text t ≡ b → after ≡ c → get_or ty j None ≡ get_or tx j None
@@ -261,51 +257,49 @@ module _ {s : List ℕ} {n held words : ℕ} {after : Bool} {i : ℕ} {tx : List
       go false false c x y w = ap (λ (zs : List (Option Quoted)). get_or zs j None) (p.same_texts x (ap (λ (d : Bool). d && after) y))
 
   -- the cell of the entry before, now that its text is known
-  settled : after ≡ true → held + length u.rows < 128 → TextCell s (get_or ty (held + length u.rows) None) (cond (is_text t) (item_of s t ∷ []) [])
+  settled : after ≡ true → length u.rows < length ty → TextCell s (get_or ty (length u.rows) None) (cond (is_text t) (item_of s t ∷ []) [])
   settled w h =
       let there : length u.rows + 1 ≡ words = rw w at u.count in
-      let same : held + length u.rows ≡ held + words - 1 → is_text t ≡ false → get_or ty (held + length u.rows) None ≡ get_or tx (held + length u.rows) None = λ q y.
-      elim (is_word t) as (λ a. is_word t ≡ a → get_or ty (held + length u.rows) None ≡ get_or tx (held + length u.rows) None) [
-        | true ↦ λ x. put_other None (p.no_text x) (held + length u.rows) (λ c. absurd (omega (arith, c, there)))
-        | false ↦ λ x. ap (λ (zs : List (Option Quoted)). get_or zs (held + length u.rows) None) (p.same_texts x (rw y))
+      let same : length u.rows ≡ words - 1 → is_text t ≡ false → get_or ty (length u.rows) None ≡ get_or tx (length u.rows) None = λ q y.
+      elim (is_word t) as (λ a. is_word t ≡ a → get_or ty (length u.rows) None ≡ get_or tx (length u.rows) None) [
+        | true ↦ λ x. put_other None (p.no_text x) (length u.rows) (λ c. absurd (omega (arith, c, there)))
+        | false ↦ λ x. ap (λ (zs : List (Option Quoted)). get_or zs (length u.rows) None) (p.same_texts x (rw y))
       ] refl in
-      let q : held + length u.rows ≡ held + words - 1 = omega (arith, there) in
-      elim (is_text t) as (λ b. is_text t ≡ b → TextCell s (get_or ty (held + length u.rows) None) (cond b (item_of s t ∷ []) [])) [
+      let q : length u.rows ≡ words - 1 = omega (arith, there) in
+      elim (is_text t) as (λ b. is_text t ≡ b → TextCell s (get_or ty (length u.rows) None) (cond b (item_of s t ∷ []) [])) [
         | true ↦ λ y.
-            rw (q, put_same None (p.text_put y w) (omega (arith, q, h, u.size))) (quoted_of t, (refl, names-item k.stands low y))
-        | false ↦ λ y. same q y ∙ u.none_yet w h
+            rw (q, put_same None (p.text_put y w) (omega (arith, q, h, l))) (quoted_of t, (refl, names-item k.stands low y))
+        | false ↦ λ y. same q y ∙ u.none_yet w (omega (arith, h, l))
       ] refl
 
-  still-named : (j : ℕ) → j < length u.rows → held + j < 128 → TextCell s (get_or ty (held + j) None) (get_or u.rows j [])
+  still-named : (j : ℕ) → j < length u.rows → j < length ty → TextCell s (get_or ty j None) (get_or u.rows j [])
   still-named j m h =
-      rw (stays (held + j) (λ q. absurd (omega (arith, q, m, u.count))) (λ w q. absurd (omega (arith, q, m, rw w at u.count)))) (u.named j m h)
+      rw (stays j (λ q. absurd (omega (arith, q, m, u.count))) (λ w q. absurd (omega (arith, q, m, rw w at u.count)))) (u.named j m (omega (arith, h, l)))
 
-  pub texted-more : {m : ℕ} → m ≡ words + cond (is_word t) 1 0 → Texted s n held m (is_word t) t.next ty
+  pub texted-more : {m : ℕ} → m ≡ words + cond (is_word t) 1 0 → Texted s n m (is_word t) t.next ty
   texted-more g =
       record {
         rows = u.rows ++ own_row after;
         rows_are = u.rows_are ∙ rw rows_next (sym (append_assoc u.rows (own_row after) (left_texts (is_word t) (statement_at s t.next))));
         count = rw (all-rows, g);
-        named = rows_named s held ty u.rows (cond (is_text t) (item_of s t ∷ []) []) after still-named settled;
-        none_yet = λ w h. rw all-rows (put_same None (p.no_text w) (omega (arith, h, all-rows, u.size)));
-        size = l ∙ u.size;
+        named = rows_named s ty u.rows (cond (is_text t) (item_of s t ∷ []) []) after still-named settled;
+        none_yet = λ w h. rw all-rows (put_same None (p.no_text w) (omega (arith, h, all-rows, l)));
       }
 
 -- ---- all of it
 
-pub record Reading (s : List ℕ) (n : ℕ) (goes_by_name : Bool) (w₀ : Verdict) (held : ℕ) (en₀ : List ℕ) (tx₀ : List (Option Quoted)) (fault over : Fault) (words : ℕ) (w : Verdict) (b : Before) (i : ℕ) (en : List ℕ) (tx : List (Option Quoted)) : Type 0 where
+pub record Reading (s : List ℕ) (n : ℕ) (goes_by_name : Bool) (w₀ : Verdict) (fault over : Fault) (words : ℕ) (w : Verdict) (b : Before) (i : ℕ) (en : List ℕ) (tx : List (Option Quoted)) : Type 0 where
   pub low : length s ≤ 32768
-  pub held_most : held ≤ 128
   pub passing : Passing s n w₀ i w
   pub few : n + words ≤ i
   pub some : n < i → filled (statement_at s n) ≡ true
   pub faulted : Faulted s n goes_by_name fault b i
-  pub worded : Worded s n held en₀ over words i en
-  pub texted : Texted s n held words b.word i tx
+  pub worded : Worded s n over words i en
+  pub texted : Texted s n words b.word i tx
   pub orders : Ordered (statement_at s i) → Ordered (statement_at s n)
 
-module _ {s : List ℕ} {t : Token} {w₀ : Verdict} {held : ℕ} {en₀ : List ℕ} {tx₀ : List (Option Quoted)} (pre : Listable s t held en₀ tx₀) {goes_by_name : Bool} where
-  module _ {fault over : Fault} {words : ℕ} {w : Verdict} {b : Before} {i : ℕ} {en : List ℕ} {tx : List (Option Quoted)} (u : Reading s t.next goes_by_name w₀ held en₀ tx₀ fault over words w b i en tx)
+module _ {s : List ℕ} {t : Token} {w₀ : Verdict} (pre : Listable s t) {goes_by_name : Bool} where
+  module _ {fault over : Fault} {words : ℕ} {w : Verdict} {b : Before} {i : ℕ} {en : List ℕ} {tx : List (Option Quoted)} (u : Reading s t.next goes_by_name w₀ fault over words w b i en tx)
       {x : Token} (k : NextToken s i x) where
     abbrev n : ℕ
     n = t.next
@@ -323,21 +317,20 @@ module _ {s : List ℕ} {t : Token} {w₀ : Verdict} {held : ℕ} {en₀ : List 
       items-now : keep (is word) (statement_at s n) ≡ u.worded.items
       items-now = u.worded.items_are ∙ rw (at-stop k z) (append-nil u.worded.items)
 
-      room-now : over ≡ None → held + words ≤ 128
+      room-now : over ≡ None → words ≤ length en
       room-now q =
           omega (
             arith,
-            drop-none (128 - held) (places u.worded.items) (no-fault (drop (128 - held) (places u.worded.items)) (sym u.worded.over_is ∙ q)),
+            drop-none (length en) (places u.worded.items) (no-fault (drop (length en) (places u.worded.items)) (sym u.worded.over_is ∙ q)),
             length-map u.worded.items (λ (j : Item). j.at),
             u.worded.count,
-            pre.held_most,
           )
 
       rows-now : entry_texts (statement_at s n) ≡ u.texted.rows ++ cond b.word ([] ∷ []) []
       unfolding entry_texts
       rows-now = u.texted.rows_are ∙ rw (at-stop k z, append-nil {A = List Item} (cond b.word ([] ∷ []) [])) refl
 
-      pub list_read : {y : Option ℕ} → y ≡ following x → ReadsList s t goes_by_name w₀ held en₀ tx₀ (record { fault = r; words = words; over = over; worst = w; next = y }) en tx
+      pub list_read : {y : Option ℕ} → y ≡ following x → ReadsList s t goes_by_name w₀ (record { fault = r; words = words; over = over; worst = w; next = y }) en tx
       list_read q =
           record {
             fault_is = fault-now;
@@ -348,30 +341,33 @@ module _ {s : List ℕ} {t : Token} {w₀ : Verdict} {held : ℕ} {en₀ : List 
             ends = passed-end u.passing k z q;
             ordered = u.orders (rw (at-stop k z) tt);
             marks = λ e. rw (items-now, u.worded.count) (u.worded.marks (room-now e));
-            texts = rw rows-now (rows_named s held tx u.texted.rows [] b.word u.texted.named u.texted.none_yet);
+            texts = rw rows-now (rows_named s tx u.texted.rows [] b.word u.texted.named u.texted.none_yet);
           }
 
-module _ {s : List ℕ} {n : ℕ} {goes_by_name : Bool} {w₀ : Verdict} {held : ℕ} {en₀ : List ℕ} {tx₀ : List (Option Quoted)} {fault over : Fault} {words : ℕ} {w : Verdict} {b : Before} {i : ℕ} {en : List ℕ} {tx : List (Option Quoted)}
-    (u : Reading s n goes_by_name w₀ held en₀ tx₀ fault over words w b i en tx) where
+-- a word that has no room
+pub over-if : (full : Bool) (at : ℕ) {b w : Bool} {o : Fault} → o ≡ then_some (b && full) at → b ≡ w → o ≡ fault_of (one_if (w && full) at)
+over-if full at e q = e ∙ place-if _ at ∙ ap (λ (c : Bool). fault_of (one_if (c && full) at)) q
+
+module _ {s : List ℕ} {n : ℕ} {goes_by_name : Bool} {w₀ : Verdict} {fault over : Fault} {words : ℕ} {w : Verdict} {b : Before} {i : ℕ} {en : List ℕ} {tx : List (Option Quoted)}
+    (u : Reading s n goes_by_name w₀ fault over words w b i en tx) where
   -- one more item
   module _ {x : Token} (k : NextToken s i x) (z : stops x.sort ≡ false) where
     module _ {a r o : Fault} {name : Bool} {m : ℕ} {v : Verdict} {em : List ℕ} {ty : List (Option Quoted)} (e : a ≡ lower fault (fault_of (colon_left b (goes_by_name && is_text x))))
-        (g : name ≡ is_name (item_of s x)) (p : PutsItem x b.word (held + words) en tx em ty) (l : length em ≡ length en) (l' : length ty ≡ length tx)
+        (g : name ≡ is_name (item_of s x)) (p : PutsItem x b.word words en tx em ty) (l : length em ≡ length en) (l' : length ty ≡ length tx)
         (f : r ≡ lower a (fault_of (one_if (not (name || (goes_by_name && is_text x && has_colon b))) x.at)))
-        (q : o ≡ lower over (fault_of (one_if (is_word x && leb 128 (held + words)) x.at))) (c : v ≡ worse w (token_verdict x)) (d : m ≡ words + cond (is_word x) 1 0) where
-      pub reading-more : Reading s n goes_by_name w₀ held en₀ tx₀ r o m v (record { word = is_word x; name = name; colon = x.colon }) x.next em ty
+        (q : o ≡ lower over (fault_of (one_if (is_word x && leb (length em) words) x.at))) (c : v ≡ worse w (token_verdict x)) (d : m ≡ words + cond (is_word x) 1 0) where
+      pub reading-more : Reading s n goes_by_name w₀ r o m v (record { word = is_word x; name = name; colon = x.colon }) x.next em ty
       reading-more =
           record {
             low = u.low;
-            held_most = u.held_most;
             passing = passing-on u.passing k z c;
-            few = omega (arith, u.few, on k z, d, one-most (is_word x));
+            few = omega (arith, u.few, on k z, d, sign-most (is_word x));
             some = λ h. elim (eqb i n) as (λ b. eqb i n ≡ b → filled (statement_at s n) ≡ true) [
               | true ↦ λ y. rw (← eqb-true i n y, at_item k z)
               | false ↦ λ y. u.some (omega (arith, eqb-false i n y, u.passing.within.from))
             ] refl;
             faulted = faulted-more u.faulted k e z (is_word x) g f;
-            worded = worded-more u.worded u.held_most k z p l q d;
+            worded = worded-more u.worded k z p l q d;
             texted = texted-more u.texted u.low k z p l' d;
             orders = λ o. u.orders (rw (at_item k z) (statement-from s x.next x.at (omega (arith, k.stands.own, k.stands.behind)), o));
           }

@@ -4,3 +4,4 @@ pub use Rattle.arguments.specs.CountLaws
 pub use Rattle.arguments.specs.Valued
 pub use Rattle.arguments.specs.declared.Arguments as ArgumentsTypeArguments
 pub use Rattle.arguments.specs.declared.Quoted
+pub use Rattle.heads.specs.HeadLaws

@@ -1,5 +1,5 @@
 -- The list of a switch: what its reader promises.
-use Rattle.std.specs.Prelude.{◌≡◌, Bool, true, false, cond, not, ◌&&◌, List, [], ◌∷◌, ◌++◌, map, ℕ, ◌+◌, ◌-◌, ◌≤◌, ◌<◌, ltb, length, get_or, take, set}
+use Rattle.std.specs.Prelude.{◌≡◌, Bool, true, false, cond, not, ◌&&◌, List, [], ◌∷◌, ◌++◌, map, ℕ, ◌-◌, ◌≤◌, ◌<◌, ltb, length, get_or, take, drop, set}
 use Rattle.arguments.specs.Valued.{NamesText, Ordered, quoted_of}
 use Rattle.drafts.specs.Marks.{mark_of, mark}
 use Rattle.statements.specs.Checks.{worst}
@@ -17,7 +17,7 @@ use Rattle.statements.specs.StatementAt.{statement_at, fault_of}
 use Rattle.heads.specs.Heads.{EndedBy}
 use Rattle.syntax.specs.Items.{Item, is, same_sort, places}
 use Rattle.syntax.specs.Items.Sort.{word, text}
-use Rattle.syntax.specs.Questions.{beyond, instr_faults, switch_faults}
+use Rattle.syntax.specs.Questions.{instr_faults, switch_faults}
 use Rattle.syntax.specs.Statements.{by_keyword, keyword_in, list_faults}
 use Rattle.switch_lists.specs.declared.Listed.{Listed}
 
@@ -58,15 +58,13 @@ abbrev pub TextCell : List ℕ → Option Quoted → List Item → Type 0
 TextCell s m [] = m ≡ None
 TextCell s m (j ∷ js) = ((q : Quoted) × ((m ≡ Some q) × NamesItem s q j))
 
--- the cells from index held on name the texts of the list from place n on, entry by entry, as far as there is room
-abbrev pub TextsNamed : List ℕ → ℕ → ℕ → List (Option Quoted) → Type 0
-TextsNamed s n held tx =
-    let rows = entry_texts (statement_at s n) in
-    (k : ℕ) → k < length rows → held + k < limit.entries → TextCell s (get_or tx (held + k) None) (get_or rows k [])
+-- the cells name the texts of the list from place n on, entry by entry, as far as there is room
+abbrev pub TextsNamed : List ℕ → ℕ → List (Option Quoted) → Type 0
+TextsNamed s n tx = let rows = entry_texts (statement_at s n) in (k : ℕ) → k < length rows → k < length tx → TextCell s (get_or tx k None) (get_or rows k [])
 
--- the marks of the labels come behind the first held
-abbrev pub MarksAdded : List ℕ → ℕ → ℕ → List ℕ → List ℕ → Type 0
-MarksAdded s n held en em = let words = keep (is word) (statement_at s n) in take (held + length words) em ≡ take held en ++ map mark words
+-- the marks of the labels come first
+abbrev pub MarksAdded : List ℕ → ℕ → List ℕ → Type 0
+MarksAdded s n em = let words = keep (is word) (statement_at s n) in take (length words) em ≡ map mark words
 
 -- v is put at index k, where there is room for it
 pub record PutCell {X : Type 0} (xs : List X) (k : ℕ) (v : X) (ys : List X) : Type 0 where
@@ -84,22 +82,20 @@ pub record PutsItem (t : Token) (after : Bool) (k : ℕ) (en : List ℕ) (tx : L
   pub text_put : is_text t ≡ true → after ≡ true → PutCell tx (k - 1) (Some (quoted_of t)) ty
   pub same_texts : is_word t ≡ false → (is_text t && after) ≡ false → ty ≡ tx
 
--- the operator is the token t, and held entries stand before those of its list
-pub record Listable (s : List ℕ) (t : Token) (held : ℕ) (en : List ℕ) (tx : List (Option Quoted)) : Type 0 where
+-- the operator is the token t
+pub record Listable (s : List ℕ) (t : Token) : Type 0 where
   pub stands : Stands s t
   pub low : length s ≤ limit.text
-  pub held_most : held ≤ limit.entries
-  pub entry_room : length en ≡ limit.entries
-  pub text_room : length tx ≡ limit.entries
 
--- 02, 11 for the entries, 14 to 16 with those of w, and the end of the statement; the labels' marks, where none is in excess, and the texts
-pub record ReadsList (s : List ℕ) (t : Token) (goes_by_name : Bool) (w : Verdict) (held : ℕ) (en : List ℕ) (tx : List (Option Quoted)) (r : Listed) (em : List ℕ) (ty : List (Option Quoted)) : Type 0 where
+-- 02, 11 for the entries, of which there may be as many as em has marks, 14 to 16 with those of w, and the end of the statement; the labels' marks, where
+-- none is in excess, and the texts
+pub record ReadsList (s : List ℕ) (t : Token) (goes_by_name : Bool) (w : Verdict) (r : Listed) (em : List ℕ) (ty : List (Option Quoted)) : Type 0 where
   pub fault_is : r.fault ≡ fault_of (switch_after s t goes_by_name)
   pub words_is : r.words ≡ length (keep (is word) (statement_at s t.next))
   pub few : r.words ≤ limit.text
-  pub over_is : r.over ≡ fault_of (beyond limit.entries held (places (keep (is word) (statement_at s t.next))))
+  pub over_is : r.over ≡ fault_of (drop (length em) (places (keep (is word) (statement_at s t.next))))
   pub worst_is : r.worst ≡ worse w (worst (statement_at s t.next))
   pub ends : EndedBy s t.next r.next
-  pub marks : r.over ≡ None → MarksAdded s t.next held en em
-  pub texts : TextsNamed s t.next held ty
+  pub marks : r.over ≡ None → MarksAdded s t.next em
+  pub texts : TextsNamed s t.next ty
   pub ordered : Ordered (statement_at s t.next)

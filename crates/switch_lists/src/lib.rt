@@ -7,15 +7,15 @@ ghost use Rattle.statements.specs.StatementAt.{fault_of};
 ghost use Rattle.switch_lists.specs.Switches.{colon_left, PutCell, PuttableItem, PutsItem, Listable, ReadsList};
 
 use arguments::Quoted;
-use heads::{following, is_name, mark};
-use language::Machine;
+use drafts::mark;
+use heads::{following, is_name};
 use lexer::{Token, next_item};
 use scanner::Sort;
 use statements::{Fault, Verdict, lower, stops, worse};
 
 // A list: the lowest place at fault of question 02, how many words it has, the first of them that is an entry in excess, the questions 14 to 16 with its
 // items, and where the next statement begins, unless this is the last.
-#[derive(Clone, Copy)]
+#[derive(Clone, Copy, Debug, PartialEq, Eq)]
 pub struct Listed {
     pub fault: Fault,
     pub words: usize,
@@ -25,7 +25,7 @@ pub struct Listed {
 }
 
 // An item that another follows: whether it is a word, whether it is a name, and the place of its colon.
-#[derive(Clone, Copy)]
+#[derive(Clone, Copy, Debug, PartialEq, Eq)]
 struct Before {
     word: bool,
     name: bool,
@@ -79,21 +79,21 @@ fn put_item(t: Token, after: bool, k: usize, entries: &mut [u32], texts: &mut [O
     }
 }
 
-// The list of a switch with the operator `t`, where `held` entries stand before its own.
+// The list of a switch with the operator `t`. The marks of its labels come to `entries`, and their texts to `texts`, as far as there is room.
 // `named` is a flag, as `goes_by_name : Bool` is in the specification of a switch, which has two types of them.
 // `entries` and `texts` are no row of pairs: the marks of all lists stay till the second pass, the texts are of this list alone.
-// Each turn goes on behind the item that it read, so there is no range to run over.
+// Each turn goes on behind the item that it read, so there is no range to run over; and no iterator over the items, which would end without the token that
+// ends the statement, and `next` is asked of that.
 pub fn read_list(
     text: &[u8],
     t: Token,
     named: bool,
     worst: Verdict,
-    held: usize,
     entries: &mut [u32],
     texts: &mut [Option<Quoted>],
 ) -> Listed
-    requires { Listable text.now t held entries.old texts.old }
-    ensures { ReadsList text.now t named worst held entries.old texts.old result entries.new texts.new }
+    requires { Listable text.now t }
+    ensures { ReadsList text.now t named worst result entries.new texts.new }
 {
     let first = t.next;
     let mut fault = None;
@@ -121,11 +121,10 @@ pub fn read_list(
         }
         let name = is_name(text, u);
         let word = u.is(Sort::Word);
-        let k = held + words;
-        put_item(u, before.word, k, entries, texts);
+        put_item(u, before.word, words, entries, texts);
         let texted = follows & before.colon.is_some();
         fault = lower(a, (!(name | texted)).then_some(u.at));
-        over = lower(over, (word & (Machine::ENTRIES <= k)).then_some(u.at));
+        over = lower(over, (word & (entries.len() <= words)).then_some(u.at));
         w = worse(w, u);
         words += usize::from(word);
         before = Before {

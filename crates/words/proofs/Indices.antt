@@ -1,49 +1,46 @@
--- Indexed letters, by the place of the first byte's letter and the size of the digits after it.
+-- Indexed letters, by the first byte's letter and the size of the digits after it.
 use mathlib.Core.Path.{◌≡◌, refl, sym, ap, ◌∙◌}
 use mathlib.Core.Bool.{Bool, true, false, cond, ◌&&◌, ◌||◌, beq, and-false}
 use mathlib.Core.List.{List, [], ◌∷◌}
 use Prim.Native.Nat.{ℕ, ◌≤◌, ◌<◌}
 use native.Mathlib.Omega.{arith}
-use lib.Dec.{leb, ltb, eqb, eqb→eq}
+use lib.Dec.{leb, ltb, ltb→lt, eqb, eqb→eq}
 use lib.ListN.{length, get_or}
 use borrow.Author.Tests.{le-leb, lt-leb, lt-ltb, le-ltb}
-use Rattle.syntax.specs.Below.Letters.{letter_code, indices, use_of}
+use Rattle.syntax.specs.Below.Letters.{Letter, letters, letter_code, indices, use_of}
+use Rattle.syntax.specs.Below.Letters.Letter.{A}
+use Rattle.appending.proofs.Below.LayoutArgumentLaws.{letter-back}
+use Rattle.syntax.proofs.LetterLaws.{every-letter}
 use Rattle.syntax.specs.Below.LanguageValues.{amount, unsigned}
 use Rattle.appending.specs.Below.Table.{letter_place}
-use Rattle.syntax.specs.Below.ListLaws.{T-left, T-right}
 use Rattle.syntax.specs.Below.Lists.{head_or}
 use Rattle.syntax.specs.Below.ListsTableLaws.{beq-eq, below}
 use Rattle.syntax.specs.ArgumentForms.{is_index, letter_of}
 use Rattle.numerals.specs.Numerals.{measured}
-use Rattle.words.specs.Words.{letter_at, reach, indexed_of}
-use Rattle.words.specs.declared.Lettered.{Lettered}
+use Rattle.words.specs.Words.{letter_at, indexed_of}
 use Rattle.std.specs.Prelude.{Option, Some, None, ◌+◌, min, unwrap_or}
 use Rattle.syntax.specs.Below.Limits as limit
 
-abbrev pub found : ℕ → ℕ → Option Lettered
-found k n = Some (record { place = k; index = n })
+abbrev pub found : Letter → ℕ → Option (Letter × ℕ)
+found l n = Some (l, n)
 
 -- a byte and its letter, computed for every byte
 is-letter : ℕ → Bool
 is-letter b = beq (eqb b (letter_code (letter_of b))) (ltb (letter_at b) 12)
 
 placed : ℕ → Bool
-placed b =
-    leb 12 (letter_at b) || (eqb (letter_place (letter_of b)) (letter_at b) && eqb (indices (use_of (letter_of b)).var) (reach (letter_at b)))
+placed b = leb 12 (letter_at b) || eqb (letter_place (letter_of b)) (letter_at b)
 
 pub record Known (b : ℕ) : Type 0 where
   pub letter : eqb b (letter_code (letter_of b)) ≡ ltb (letter_at b) 12
   pub place : letter_at b < 12 → letter_place (letter_of b) ≡ letter_at b
-  pub most : letter_at b < 12 → indices (use_of (letter_of b)).var ≡ reach (letter_at b)
 
 known : (b : ℕ) → b < 256 → Known b
 unfolding is-letter placed
 known b h =
-    let t = below placed 256 tt b h in
     record {
       letter = beq-eq (eqb b (letter_code (letter_of b))) (ltb (letter_at b) 12) (below is-letter 256 tt b h);
-      place = λ l. let u = rw (lt-leb 12 (letter_at b) l) at t in eqb→eq (letter_place (letter_of b)) (letter_at b) (T-left (eqb (letter_place (letter_of b)) (letter_at b)) (eqb (indices (use_of (letter_of b)).var) (reach (letter_at b))) u);
-      most = λ l. let u = rw (lt-leb 12 (letter_at b) l) at t in eqb→eq (indices (use_of (letter_of b)).var) (reach (letter_at b)) (T-right (eqb (letter_place (letter_of b)) (letter_at b)) (eqb (indices (use_of (letter_of b)).var) (reach (letter_at b))) u);
+      place = λ l. eqb→eq (letter_place (letter_of b)) (letter_at b) (rw (lt-leb 12 (letter_at b) l) at (below placed 256 tt b h));
     }
 
 leading : (v : List ℕ) → head_or 0 v ≡ get_or v 0 0
@@ -92,35 +89,39 @@ indexed_none [] h = refl
 indexed_none (b ∷ w) h = absurd (omega (arith, h))
 
 module _ (b : ℕ) (v : List ℕ) (small : b < 256) where
-  abbrev place : ℕ
-  place = letter_at b
-
-  pub indexed-other : place ≡ 12 → None ≡ indexed_of (b ∷ v)
+  pub indexed-other : letter_at b ≡ 12 → None ≡ indexed_of (b ∷ v)
   unfolding indexed_of
   indexed-other h = rw ((known b small).letter, h)
 
-  indexed-by : place < 12 → indexed_of (b ∷ v) ≡ cond (is_index (reach place) v) (found place (amount 0 v)) None
-  unfolding indexed_of
-  indexed-by l =
-      let k = known b small in
-      rw (k.letter, k.place l, k.most l, lt-ltb place 12 l)
+  -- b is the byte of the letter l
+  module _ (l : Letter) (at : letter_place l ≡ letter_at b) where
+    abbrev top : ℕ
+    top = indices (use_of l).var
 
-  none_of : place < 12 → is_index (reach place) v ≡ false → None ≡ indexed_of (b ∷ v)
-  none_of h e = sym (indexed-by h ∙ rw e)
+    indexed-by : indexed_of (b ∷ v) ≡ cond (is_index top v) (found l (amount 0 v)) None
+    unfolding indexed_of
+    indexed-by =
+        let k = known b small in
+        let low : letter_at b < 12 = rw at at (ltb→lt (letter_place l) 12 (every-letter (λ m. ltb (letter_place m) 12) tt l)) in
+        let same : letter_of b ≡ l = sym (letter-back (letter_of b)) ∙ ap (λ n. get_or letters n A) (k.place low ∙ sym at) ∙ letter-back l in
+        rw (k.letter, same, lt-ltb (letter_at b) 12 low)
 
-  pub indexed-short : place < 12 → length v ≡ 0 → None ≡ indexed_of (b ∷ v)
-  indexed-short h l = none_of h (index-empty (reach place) v l)
+    none_of : is_index top v ≡ false → None ≡ indexed_of (b ∷ v)
+    none_of e = sym (indexed-by ∙ rw e)
 
-  pub indexed-zero : place < 12 → get_or v 0 0 ≤ 48 → None ≡ indexed_of (b ∷ v)
-  indexed-zero h l = none_of h (index-zero (reach place) v (rw (leading v) l))
+    pub indexed-short : length v ≡ 0 → None ≡ indexed_of (b ∷ v)
+    indexed-short h = none_of (index-empty top v h)
 
-  pub indexed-no : place < 12 → measured v ≡ None → None ≡ indexed_of (b ∷ v)
-  indexed-no h e = none_of h (index-none (reach place) v e)
+    pub indexed-zero : get_or v 0 0 ≤ 48 → None ≡ indexed_of (b ∷ v)
+    indexed-zero h = none_of (index-zero top v (rw (leading v) h))
 
-  pub indexed-beyond : place < 12 → reach place ≤ 32 → {n : ℕ} → measured v ≡ Some n → reach place < n → None ≡ indexed_of (b ∷ v)
-  indexed-beyond h m e l = none_of h (index-beyond (reach place) v m e l)
+    pub indexed-no : measured v ≡ None → None ≡ indexed_of (b ∷ v)
+    indexed-no e = none_of (index-none top v e)
 
-  pub indexed-found : place < 12 → reach place ≤ 32 → 48 < get_or v 0 0 → {n : ℕ} → measured v ≡ Some n → n ≤ reach place → found place n ≡ indexed_of (b ∷ v)
-  indexed-found h m z e l =
-      let k = index-within (reach place) v m (rw (leading v) z) e l in
-      sym (indexed-by h ∙ rw (k.0, k.1))
+    pub indexed-beyond : top ≤ 32 → {n : ℕ} → measured v ≡ Some n → top < n → None ≡ indexed_of (b ∷ v)
+    indexed-beyond m e h = none_of (index-beyond top v m e h)
+
+    pub indexed-found : top ≤ 32 → 48 < get_or v 0 0 → {n : ℕ} → measured v ≡ Some n → n ≤ top → found l n ≡ indexed_of (b ∷ v)
+    indexed-found m z e h =
+        let k = index-within top v m (rw (leading v) z) e h in
+        sym (indexed-by ∙ rw (k.0, k.1))

@@ -9,9 +9,10 @@ use native.Mathlib.Omega.{arith}
 use lib.Dec.{eqb, eqb→eq, T, leb, leb→le, ltb, ltb→lt}
 use lib.ListN.{get_or, length, get_or-append, get_or-map, get_or-eq_default}
 use lib.Seq.{get_or-append-add}
+use Rattle.lists.specs.SearchLaws.{ahead-map}
 use Rattle.syntax.specs.Below.Lists.{any, ahead, bytes_equal}
 use Rattle.syntax.specs.Below.Quoted.{bytes}
-use Rattle.syntax.specs.Below.ListsTableLaws.{below, beq-eq, Missed}
+use Rattle.syntax.specs.Below.ListsTableLaws.{below, beq-eq}
 use Rattle.syntax.specs.Statements as Spec
 use Rattle.syntax.specs.Statements.{editions, words_of, own, reserved, same_keyword}
 use Rattle.words.specs.Keywords.{keyword_by, told, edition_of, known_by, own_by, is_own, known, word_at, place_in, Placed, other_word, meanings, keyword_at, shared, edition_at, slot, in_a_row, beginnings, guesses, guess, of_row, InRow, Lent}
@@ -21,6 +22,7 @@ use Rattle.words.proofs.Operators.{same-operator}
 use Rattle.language.specs.Instructions.{number_of}
 use Rattle.language.specs.Operators.{op_by}
 use Rattle.language.specs.declared.Operator.{Operator}
+use Rattle.std.specs.Bool.{then_some}
 use Rattle.std.specs.Option.{is_some}
 use Rattle.std.specs.Prelude.{Option, Some, None}
 use borrow.Author.Tests.{lt-ltb, le-ltb}
@@ -130,10 +132,6 @@ module _ {X : Type 0} (p : X → Bool) (ys : List X) where
       go false e k = omega (arith, k e)
 
 module _ {X Y : Type 0} (p : Y → Bool) (f : X → Y) where
-  ahead-map : (xs : List X) → ahead p (map f xs) ≡ ahead (λ x. p (f x)) xs
-  ahead-map [] = refl
-  ahead-map (x ∷ xs) = ap (λ n. elim (p (f x)) [ true ↦ 0 | false ↦ suc n ]) (ahead-map xs)
-
   any-map : (xs : List X) → any p (map f xs) ≡ any (λ x. p (f x)) xs
   any-map [] = refl
   any-map (x ∷ xs) = ap (λ t. p (f x) || t) (any-map xs)
@@ -170,10 +168,10 @@ module _ (e : Bool) (w : List ℕ) where
     its-place = rw q (eqb→eq (place_in e (word_at e j)) j (T-right (eqb (guess e (word_at e j)) j) (eqb (place_in e (word_at e j)) j) (all-lead e j h)))
 
   -- what the guess leads to
-  pub guessed-right : (j : ℕ) → j < 46 → bytes_equal w (word_at e j) ≡ true → j ≡ place_in e w
+  guessed-right : (j : ℕ) → j < 46 → bytes_equal w (word_at e j) ≡ true → j ≡ place_in e w
   guessed-right j h t = sym (its-place j h (same_bytes-eq w (word_at e j) (subst T (sym t) tt)))
 
-  pub guessed-wrong : (j : ℕ) → guess e w ≡ j → bytes_equal w (word_at e j) ≡ false → 46 ≡ place_in e w
+  guessed-wrong : (j : ℕ) → guess e w ≡ j → bytes_equal w (word_at e j) ≡ false → 46 ≡ place_in e w
   guessed-wrong j g t = go case
     where
       go : Case → 46 ≡ place_in e w
@@ -182,6 +180,10 @@ module _ (e : Bool) (w : List ℕ) where
           let u = subst (λ (k : ℕ). T (bytes_equal w (word_at e k))) s (subst (λ v. T (bytes_equal w v)) q (same_bytes-refl w)) in
           absurd (subst T t u)
       go (none n) = sym (no_place n)
+
+  pub guessed : {j : ℕ} → j < 46 → guess e w ≡ j → {t : Bool} → t ≡ bytes_equal w (word_at e j) → Placed e w (then_some t j)
+  guessed {j} l g {t = true} h = (guessed-right j l (sym h), l)
+  guessed {j} l g {t = false} h = sym (guessed-wrong j g (sym h))
 
   -- a word of the edition is one that has a place there
   pub has-place : any (bytes_equal w) (words_of e) ≡ ltb (place_in e w) 46
@@ -228,13 +230,6 @@ keyword-instr j l h {o} e =
     let a : j - 5 + 1 ≡ j - 4 = omega arith in
     let b : j - 5 + 5 ≡ j = omega arith in
     is-instr (keyword_at j) o (omega (arith, e)) ((rw (a, b) at (instr-placed (j - 5) (omega arith))) ∙ sym e)
-
--- the arms of a match on a place
-pub keyword-arm : {j k : ℕ} → j ≡ k → keyword_at k ≡ keyword_at j
-keyword-arm e = ap keyword_at (sym e)
-
-pub behind-arms : (j : ℕ) → Missed (Unit {0}) (0 ∷ 1 ∷ 2 ∷ 3 ∷ 4 ∷ []) j → 5 ≤ j
-behind-arms j m = omega (arith, m.1, m.0.1, m.0.0.1, m.0.0.0.1, m.0.0.0.0.1)
 
 pub keyword-beyond : (j : ℕ) → 46 ≤ j → None ≡ keyword_at j
 unfolding keyword_at

@@ -1,15 +1,18 @@
 -- What the functions on words answer: classes, numbers and indexed letters.
 use Rattle.std.specs.Option.{MatchOption}
-use Rattle.std.specs.Prelude.{◌≡◌, ◌<◌, Bool, Option, Some, None, cond, ◌&&◌, List, ℕ, eqb, get_or, drop}
-use Rattle.syntax.specs.Below.Letters.{letters, letter_code, indices, use_of}
-use Rattle.syntax.specs.Below.Letters.Letter.{A}
+use Rattle.std.specs.Prelude.{◌≡◌, Bool, Option, Some, None, cond, ◌&&◌, List, ℕ, eqb, drop}
+use Rattle.syntax.specs.Below.Letters as letters
+use Rattle.syntax.specs.Below.Letters.{letter_code}
 use Rattle.syntax.specs.Below.Program.{classes}
 use Rattle.syntax.specs.Below.LanguageValues.{amount, numeral, value_of, in_range}
 use Rattle.appending.specs.Below.LayoutCells.{code}
 use Rattle.appending.specs.Below.Table.{letter_place, class_mask}
 use Rattle.syntax.specs.Below.Lists.{all, ahead, filled, head_or, among}
 use Rattle.syntax.specs.Below.Quoted.{bytes}
-use Rattle.syntax.specs.ArgumentForms.{is_indexed, letter_of}
+use Rattle.syntax.specs.ArgumentForms as syntax
+use Rattle.syntax.specs.ArgumentForms.{is_indexed}
+use Rattle.table.specs.Denote.{letter_of}
+use Rattle.table.specs.declared.Letter.{Letter}
 use Rattle.words.specs.declared.Lettered.{Lettered}
 
 -- a class, as it is read of a word
@@ -29,18 +32,18 @@ numeral_of w = cond (numeral w && in_range (value_of w)) (Some (code (value_of w
 
 -- the place of the letter of a byte among the letters; 12 for a byte of none
 abbrev pub letter_at : ℕ → ℕ
-letter_at b = ahead (λ l. eqb b (letter_code l)) letters
+letter_at b = ahead (λ l. eqb b (letter_code l)) letters.letters
 
--- r is the place of the letter of b, and nothing where b is no letter's
-abbrev pub Lettering : ℕ → Option ℕ → Type 0
-Lettering b r = MatchOption r (letter_at b ≡ 12) (λ k. (k ≡ letter_at b) × (k < 12))
+-- r is the letter of b, and nothing where b is no letter's
+abbrev pub Lettering : ℕ → Option Letter → Type 0
+Lettering b r = MatchOption r (letter_at b ≡ 12) (λ l. letter_place (letter_of l) ≡ letter_at b)
 
--- how far the indices of the letter at a place go
-abbrev pub reach : ℕ → ℕ
-reach k = indices (use_of (get_or letters k A)).var
+-- the letter and the index of an indexed letter of code
+abbrev pub letter_meant : Lettered → letters.Letter × ℕ
+letter_meant l = (letter_of l.letter, l.index)
 
 -- the indexed letter that a word is
-unfoldable pub indexed_of : List ℕ → Option Lettered
+unfoldable pub indexed_of : List ℕ → Option (letters.Letter × ℕ)
 indexed_of w =
-    let l = letter_of (head_or 0 w) in
-    cond (is_indexed w l) (Some (record { place = letter_place l; index = amount 0 (drop 1 w) })) None
+    let l = syntax.letter_of (head_or 0 w) in
+    cond (is_indexed w l) (Some (l, amount 0 (drop 1 w))) None

@@ -2,17 +2,19 @@
 #![tactic(auto)]
 
 ghost use Rattle.std.specs.Prelude.{◌≡◌, Some, true, false, cond, not, ◌||◌, ◌+◌, ◌-◌, ◌*◌, ◌≤◌, ◌<◌};
+ghost use Rattle.std.specs.Option.{option_map};
 ghost use Rattle.appending.specs.Appending.{Appends};
 ghost use Rattle.syntax.specs.Below.Characters.{is_capital, is_digit};
 ghost use Rattle.syntax.specs.Below.Program.{identifier};
 ghost use Rattle.syntax.specs.Below.Lists.{all, among};
 ghost use Rattle.syntax.specs.Statements.{reserved};
-ghost use Rattle.words.specs.Words.{class_letter, is_class, class_of, numeral_of, Lettering, indexed_of};
+ghost use Rattle.words.specs.Words.{class_letter, is_class, class_of, numeral_of, Lettering, letter_meant, indexed_of};
 ghost use Rattle.words.specs.Keywords.{is_english, is_own, known, keyword_at, edition_at, word_at, Placed, other_word, slot, guess, Lent};
 
 use appending::append;
 use language::Operator;
 use syntax::from_characters;
+use table::Letter;
 
 // The words of each edition, one after the other by their pairs; that at place j goes from start j to the next. By slot, `(` plus the place of the word
 // that has it; where none has it, any.
@@ -40,10 +42,10 @@ const ENGLISH_STARTS: [u8; 47] = [
 const ENGLISH_SLOTS: [u8; 128] =
     *b"(+((((1(((?(((.()*=(I(((((5(((((O((((@(((((20U(((:(((D(((K(((((H(B(((,(8((<F((P6T(((;((SM((LG((((N(Q(J-(ER94(7((C(((((((3(((A>/(";
 
-// An indexed letter: the letter's place among the twelve, and the index.
+// An indexed letter.
 #[derive(Clone, Copy, Debug, PartialEq, Eq)]
 pub struct Lettered {
-    pub place: u8,
+    pub letter: Letter,
     pub index: u8,
 }
 
@@ -113,10 +115,7 @@ fn all_class_letters(w: &[u8]) -> bool
 pub fn is_class(w: &[u8]) -> bool
     ensures { result ≡ is_class w.now }
 {
-    if w.is_empty() {
-        return false;
-    }
-    all_class_letters(w)
+    !w.is_empty() & all_class_letters(w)
 }
 
 fn has(w: &[u8], b: u8) -> bool
@@ -152,80 +151,80 @@ pub fn number_of(w: &[u8]) -> Option<u32>
     numerals::read_decimal(w).ok()
 }
 
-// The place of a letter of arguments among the twelve.
-fn letter_at(b: u8) -> Option<u8>
+// The letter of arguments that a byte spells.
+fn letter_at(b: u8) -> Option<Letter>
     ensures { Lettering b result }
 {
     Some(match b {
-        b'A' => 0,
-        b'B' => 1,
-        b'C' => 2,
-        b'D' => 3,
-        b'E' => 4,
-        b'I' => 5,
-        b'N' => 6,
-        b'P' => 7,
-        b'Q' => 8,
-        b'T' => 9,
-        b'Y' => 10,
-        b'Z' => 11,
+        b'A' => Letter::A,
+        b'B' => Letter::B,
+        b'C' => Letter::C,
+        b'D' => Letter::D,
+        b'E' => Letter::E,
+        b'I' => Letter::I,
+        b'N' => Letter::N,
+        b'P' => Letter::P,
+        b'Q' => Letter::Q,
+        b'T' => Letter::T,
+        b'Y' => Letter::Y,
+        b'Z' => Letter::Z,
         _ => return None,
     })
 }
 
 pub fn indexed(w: &[u8]) -> Option<Lettered>
-    ensures { result ≡ indexed_of w.now }
+    ensures { option_map letter_meant result ≡ indexed_of w.now }
 {
     let (first, digits) = w.split_first()?;
-    let place = letter_at(*first)?;
+    let letter = letter_at(*first)?;
     let leading = digits.first()?;
     if *leading <= b'0' {
         return None;
     }
     let n = numerals::measure(digits)?;
-    if table::letter_by(u32::from(place)).reach() < n {
+    if letter.reach() < n {
         return None;
     }
     Some(Lettered {
-        place,
+        letter,
         index: n as u8,
     })
 }
 
 // The words of an edition, lent with what finds them.
-#[derive(Clone, Copy)]
+#[derive(Clone, Copy, Debug, PartialEq, Eq)]
 struct Lexicon<'a> {
-    english: bool,
+    edition: Edition,
     row: &'a [u8],
     starts: &'a [u8],
     slots: &'a [u8],
-    ghost lent: { Lent english row.now starts.now slots.now },
+    ghost lent: { Lent (is_english edition) row.now starts.now slots.now },
 }
 
 impl<'a> Lexicon<'a> {
-    fn of(english: bool) -> Self
-        ensures { result.english ≡ english }
+    fn of(edition: Edition) -> Self
+        ensures { result.edition ≡ edition }
     {
-        if english {
-            return Lexicon {
-                english,
+        match edition {
+            Edition::Polish => Lexicon {
+                edition,
+                row: &POLISH,
+                starts: &POLISH_STARTS,
+                slots: &POLISH_SLOTS,
+            },
+            Edition::English => Lexicon {
+                edition,
                 row: &ENGLISH,
                 starts: &ENGLISH_STARTS,
                 slots: &ENGLISH_SLOTS,
-            };
-        }
-        Lexicon {
-            english,
-            row: &POLISH,
-            starts: &POLISH_STARTS,
-            slots: &POLISH_SLOTS,
+            },
         }
     }
 
     // The word at place j.
     fn word(&self, j: u8) -> &'a [u8]
         requires { j < 46 }
-        ensures { result.now ≡ word_at self.now.english j }
+        ensures { result.now ≡ word_at (is_english self.now.edition) j }
     {
         let i = usize::from(j);
         let from = usize::from(self.starts[i]);
@@ -234,8 +233,9 @@ impl<'a> Lexicon<'a> {
     }
 
     // A number from a word's length and letters that no two words of the edition share.
+    #[tactic(auto, unfolding(crate::specs::Keywords::slot))]
     fn slot(&self, w: &[u8]) -> usize
-        ensures { (result ≡ slot self.now.english w.now) × (result < 128) }
+        ensures { (result ≡ slot (is_english self.now.edition) w.now) × (result < 128) }
     {
         let n = w.len();
         if n < 2 {
@@ -247,15 +247,15 @@ impl<'a> Lexicon<'a> {
         let first = usize::from(w[0]);
         let before = usize::from(w[n - 2]);
         let last = usize::from(w[n - 1]);
-        if self.english {
-            return (2 * n + 3 * first + 4 * before + 19 * last) % 128;
+        match self.edition {
+            Edition::Polish => (2 * n + 3 * first + 9 * before + 13 * last) % 128,
+            Edition::English => (2 * n + 3 * first + 4 * before + 19 * last) % 128,
         }
-        (2 * n + 3 * first + 9 * before + 13 * last) % 128
     }
 
     // The place to which a word's slot leads: the only one that the word can have.
     fn guess(&self, w: &[u8]) -> u8
-        ensures { (result ≡ guess self.now.english w.now) × (result < 46) }
+        ensures { (result ≡ guess (is_english self.now.edition) w.now) × (result < 46) }
     {
         let h = self.slot(w);
         self.slots[h] - b'('
@@ -263,17 +263,15 @@ impl<'a> Lexicon<'a> {
 
     // The place of a word among those of the edition.
     fn place(&self, w: &[u8]) -> Option<u8>
-        ensures { Placed self.now.english w.now result }
+        ensures { Placed (is_english self.now.edition) w.now result }
     {
         let j = self.guess(w);
-        if w == self.word(j) {
-            return Some(j);
-        }
-        None
+        (w == self.word(j)).then_some(j)
     }
 }
 
 // The keyword whose words have place j.
+#[tactic(auto, unfolding(crate::specs::Keywords::keyword_at))]
 fn keyword_at(j: u8) -> Keyword
     requires { j < 46 }
     ensures { Some result ≡ keyword_at j }
@@ -303,13 +301,13 @@ fn edition_at(j: u8) -> Option<Edition>
 pub fn keyword_of(w: &[u8]) -> Option<Known>
     ensures { result ≡ known w.now }
 {
-    if let Some(j) = Lexicon::of(false).place(w) {
+    if let Some(j) = Lexicon::of(Edition::Polish).place(w) {
         return Some(Known {
             keyword: keyword_at(j),
             edition: edition_at(j),
         });
     }
-    let k = Lexicon::of(true).place(w)?;
+    let k = Lexicon::of(Edition::English).place(w)?;
     Some(Known {
         keyword: keyword_at(k),
         edition: Some(Edition::English),
@@ -320,21 +318,19 @@ pub fn keyword_of(w: &[u8]) -> Option<Known>
 pub fn is_reserved(w: &[u8]) -> bool
     ensures { result ≡ reserved w.now }
 {
-    if Lexicon::of(false).place(w).is_some() {
-        return true;
-    }
-    Lexicon::of(true).place(w).is_some()
+    Lexicon::of(Edition::Polish).place(w).is_some()
+        || Lexicon::of(Edition::English).place(w).is_some()
 }
 
 // Appends what a word is in the other edition: the word that has its place there. A word of no edition is itself.
 pub fn append_other(w: &[u8], out: &mut [u8], at: usize) -> Option<usize>
     ensures { Appends out.old at (other_word w.now) result out.new }
 {
-    if let Some(j) = Lexicon::of(false).place(w) {
-        return append(out, at, Lexicon::of(true).word(j));
+    if let Some(j) = Lexicon::of(Edition::Polish).place(w) {
+        return append(out, at, Lexicon::of(Edition::English).word(j));
     }
-    if let Some(k) = Lexicon::of(true).place(w) {
-        return append(out, at, Lexicon::of(false).word(k));
+    if let Some(k) = Lexicon::of(Edition::English).place(w) {
+        return append(out, at, Lexicon::of(Edition::Polish).word(k));
     }
     append(out, at, w)
 }

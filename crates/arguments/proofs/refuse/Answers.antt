@@ -1,10 +1,10 @@
 -- `arguments::refuse` meets its contract.
+use Rattle.lists.specs.BoolLaws.{byte-is}
 use Rattle.statements.specs.StatementLaws.{on}
 use mathlib.Core.Bool.{cond, not}
 use mathlib.Core.Path.{sym, ap, ◌∙◌}
 use Prim.Native.Nat.{◌+◌, ◌-◌}
 use native.Mathlib.Omega.{arith}
-use Rattle.scanner.proofs.Loops.{byte-is}
 use Rattle.arguments.specs.LeftLaws.{leaving-first, left_end, leaving-on}
 use Rattle.arguments.specs.ReadLaws.{refusing}
 use Rattle.arguments.proofs.refuse.Goals as goal

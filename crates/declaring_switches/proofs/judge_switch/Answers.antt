@@ -1,13 +1,21 @@
 -- `declaring_switches::judge_switch` meets its contract.
 use native.Mathlib.Omega.{arith}
-use Rattle.declaring_switches.proofs.Texts.{judged-switch}
+use Rattle.statements.specs.Faults.{lower}
+use Rattle.declaring_switches.proofs.Texts.{entering-first, row-enterable, entering-more, text-refused, texts-entered, lower-rest, judged-switch}
 use Rattle.declaring_switches.proofs.judge_switch.Goals as goal
 
-pub enter_texts-b-requires : goal.enter_texts-b-requires
-enter_texts-b-requires c = c.requires
+pub loop-entry-init : goal.loop-entry-init
+loop-entry-init c = entering-first (omega arith)
 
-pub lower-requires-2 : goal.lower-requires-2
-lower-requires-2 c = (omega arith)
+pub enter_entry-requires : goal.enter_entry-requires
+enter_entry-requires c = row-enterable c.requires c.loop-entry.invariant c.loop-entry-test.true
+
+pub returns-in-Err : goal.returns-in-Err
+returns-in-Err c =
+    judged-switch c.requires (text-refused c.requires c.loop-entry.invariant c.loop-entry-test.true c.enter_entry.ensures c.in-Err.is) c.switch_beyond.ensures c.lower-fault.ensures c.lower.ensures
+
+pub loop-entry-preserved : goal.loop-entry-preserved
+loop-entry-preserved c = entering-more c.requires c.loop-entry.invariant c.loop-entry-test.true c.enter_entry.ensures c.in_default.is (omega arith)
 
 pub returns : goal.returns
-returns c = judged-switch c.requires c.enter_texts-b.ensures c.switch_beyond-a.ensures c.lower.ensures c.lower-2.ensures
+returns c = judged-switch c.requires (texts-entered c.requires c.loop-entry.invariant c.loop-entry-test.false) c.switch_beyond.ensures c.lower-fault.ensures (lower-rest _)

@@ -1,12 +1,9 @@
 -- `heads::name_fault` meets its contract.
-use Rattle.statements.specs.StatementAt.{fault_of}
-use mathlib.Core.Path.{sym, ap, ◌∙◌}
-use mathlib.Core.Bool.{Bool, cond}
-use mathlib.Core.List.{[], ◌∷◌}
-use Prim.Native.Nat.{ℕ}
-use Rattle.scanner.specs.Below.SyntaxVerdict as spec
+use mathlib.Core.Path.{ap, ◌∙◌}
+use mathlib.Core.Bool.{Bool, not}
+use Rattle.std.specs.Bool.{then_some}
+use Rattle.heads.specs.HeadLaws.{place-unless}
 use Rattle.heads.proofs.name_fault.Goals as goal
 
-pub returns-else-is_name : goal.returns-else-is_name
-unfolding spec.lowest
-returns-else-is_name c = let at : ℕ = c.args.at in ap (λ (b : Bool). fault_of (cond b [] (at ∷ []))) (sym c.if-is_name.false ∙ c.is_name.ensures)
+pub returns : goal.returns
+returns c = c.then_some.ensures ∙ ap (λ (b : Bool). then_some (not b) c.args.at) c.is_name.ensures ∙ place-unless _ c.args.at

@@ -2,4 +2,4 @@
 use Rattle.linking.proofs.label_place.Goals as goal
 
 pub returns : goal.returns
-returns c = rw c.word.ensures at c.find_label.ensures
+returns c = rw c.word_of.ensures at c.find_label.ensures

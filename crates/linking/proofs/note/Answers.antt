@@ -1,13 +1,11 @@
 -- `linking::note` meets its contract.
-use mathlib.Core.Path.{◌∙◌}
-use Rattle.drafts.specs.Marks.{place_by}
-use Rattle.linking.proofs.Faults.{joined-none, joined-one}
+use mathlib.Core.Bool.{not}
+use mathlib.Core.Path.{ap, ◌∙◌}
+use Rattle.std.specs.Bool.{then_some}
+use Rattle.statements.specs.Faults.{lower}
+use Rattle.linking.proofs.Faults.{joined-unless}
 use Rattle.linking.proofs.note.Goals as goal
 
-pub returns-then-fine : goal.returns-then-fine
-returns-then-fine c = rw c.if-fine.true (joined-none c.args.f)
-
-pub returns-else-fine : goal.returns-else-fine
-returns-else-fine c =
-    let a = c.args in
-    rw c.if-fine.false (c.lower.ensures ∙ joined-one a.f (place_by a.m))
+pub returns : goal.returns
+returns c =
+    c.lower.ensures ∙ ap (lower c.args.f) (c.then_some.ensures ∙ ap (then_some (not c.args.fine)) c.place_of.ensures) ∙ joined-unless c.args.f c.args.fine _

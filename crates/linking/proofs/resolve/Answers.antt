@@ -1,26 +1,40 @@
 -- `linking::resolve` meets its contract.
-use borrow.Author.Rules.{rules}
-use Rattle.linking.proofs.Answers.{no_label, no_switch, entries-labelled, all-linked}
+use mathlib.Core.Path.{sym, ap, ◌∙◌}
+use Rattle.std.proofs.lemmas.Result.{err_from_is_err_and}
+use Rattle.statements.specs.Faults.{verdict_of}
+use Rattle.linking.proofs.Answers.{no_label, no_switch, none-at, entries-labelled, all-linked}
 use Rattle.linking.proofs.Faults.{asking}
 use Rattle.linking.proofs.resolve.Goals as goal
 
 pub undeclared_label-requires : goal.undeclared_label-requires
 undeclared_label-requires c = c.requires
 
+pub returns-in_err-decide : goal.returns-in_err-decide
+returns-in_err-decide c =
+    let a = c.args in
+    let e = err_from_is_err_and c.from_residual.result c.from_residual.ensures.1 in
+    rw (e.1, e.2) (no_label a.text.now a.table.now a.sw.now a.en.now _ c.undeclared_label.ensures (sym (ap verdict_of c.in_err-decide.was) ∙ c.decide.ensures))
+
 pub undeclared_switch-requires : goal.undeclared_switch-requires
 undeclared_switch-requires c = c.requires
+
+pub returns-in_err-decide-2 : goal.returns-in_err-decide-2
+returns-in_err-decide-2 c =
+    let a = c.args in
+    let e = err_from_is_err_and c.from_residual-in_err-decide-2.result c.from_residual-in_err-decide-2.ensures.1 in
+    let n = none-at 12 _ c.in_ok-decide.was c.decide.ensures in
+    rw (e.1, e.2) (no_switch a.text.now a.table.now a.sw.now a.en.now c.undeclared_label.ensures n _ c.undeclared_switch.ensures (sym (ap verdict_of c.in_err-decide-2.was) ∙ c.decide-2.ensures))
 
 pub resolve_code-requires : goal.resolve_code-requires
 resolve_code-requires c = asking c.requires
 
 pub resolve_entries-requires : goal.resolve_entries-requires
-resolve_entries-requires c = entries-labelled c.args.text.now c.args.table.now c.args.sw.now c.args.en.now c.undeclared_label.ensures (search rules) c.requires c.resolve_code.ensures
-
-pub returns-in-Some : goal.returns-in-Some
-returns-in-Some c = no_label c.args.text.now c.args.table.now c.args.sw.now c.args.en.now c.in-Some.at c.undeclared_label.ensures c.in-Some.is
-
-pub returns-in-Some-undeclared_switch : goal.returns-in-Some-undeclared_switch
-returns-in-Some-undeclared_switch c = no_switch c.args.text.now c.args.table.now c.args.sw.now c.args.en.now c.undeclared_label.ensures (search rules) c.in-Some-undeclared_switch.at c.undeclared_switch.ensures c.in-Some-undeclared_switch.is
+resolve_entries-requires c =
+    let a = c.args in
+    entries-labelled a.text.now a.table.now a.sw.now a.en.now c.undeclared_label.ensures (none-at 12 _ c.in_ok-decide.was c.decide.ensures) c.requires c.resolve_code.ensures
 
 pub returns : goal.returns
-returns c = all-linked c.args.text.now c.args.table.now c.args.sw.now c.args.en.now c.undeclared_label.ensures (search rules) c.undeclared_switch.ensures (search rules) c.resolve_code.ensures c.resolve_entries.ensures
+returns c =
+    let a = c.args in
+    all-linked a.text.now a.table.now a.sw.now a.en.now c.undeclared_label.ensures (none-at 12 _ c.in_ok-decide.was c.decide.ensures) c.undeclared_switch.ensures (none-at 13 _ c.in_ok-decide-2.was c.decide-2.ensures)
+    c.resolve_code.ensures c.resolve_entries.ensures

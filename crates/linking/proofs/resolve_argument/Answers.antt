@@ -10,8 +10,8 @@ use Rattle.linking.proofs.Steps.{label-put, switch-put, none-kind, switch-low}
 use Rattle.linking.proofs.Uses.{switches_fit}
 use Rattle.linking.proofs.resolve_argument.Goals as goal
 
-pub cell_at-x-requires : goal.cell_at-x-requires
-cell_at-x-requires c = let a = c.requires in (omega (arith, a.at.there, a.at.asking.holds.tabular.code_most), a.place)
+pub argument_cell-x-requires : goal.argument_cell-x-requires
+argument_cell-x-requires c = let a = c.requires in (omega (arith, a.at.there, a.at.asking.holds.tabular.code_most), a.place)
 
 pub label_for-v-requires : goal.label_for-v-requires
 label_for-v-requires c = labels-counted _ _ c.requires.at.asking.holds
@@ -21,8 +21,8 @@ set_argument-requires c = argument-place _ _ c.requires.at.asking.holds _ _ _ c.
 
 pub returns-in-Ok-Label : goal.returns-in-Ok-Label
 returns-in-Ok-Label c =
-    let e : 2 ≡ c.cell_at-x.result % 8 = rw (c.in-Ok-Label.is, c.in-Ok-Label.field-0-is) at c.try_from.ensures.number_is in
-    label-put c.args.text.now c.args.sw.now c.args.table.now c.args.k c.args.j _ c.requires c.cell_at-x.ensures c.label_for-v.result (sym e) c.label_for-v.ensures
+    let e : 2 ≡ c.argument_cell-x.result % 8 = rw (c.in-Ok-Label.is, c.in-Ok-Label.field-0-is) at c.try_from.ensures.number_is in
+    label-put c.args.text.now c.args.sw.now c.args.table.now c.args.k c.args.j _ c.requires c.argument_cell-x.ensures.is c.label_for-v.result (sym e) c.label_for-v.ensures
     (rw c.cell.ensures.0 at c.set_argument.ensures)
 
 pub slice_bounds-switch_for-end : goal.slice_bounds-switch_for-end
@@ -36,12 +36,12 @@ set_argument-requires-in-Ok-Switch c = argument-place _ _ c.requires.at.asking.h
 
 pub returns-in-Ok-Switch : goal.returns-in-Ok-Switch
 returns-in-Ok-Switch c =
-    let e : 3 ≡ c.cell_at-x.result % 8 = rw (c.in-Ok-Switch.is, c.in-Ok-Switch.field-0-is) at c.try_from.ensures.number_is in
-    switch-put c.args.text.now c.args.sw.now c.args.table.now c.args.k c.args.j _ c.requires c.cell_at-x.ensures c.switches.result c.switch_for-v.result (sym e) c.switches.ensures.is
+    let e : 3 ≡ c.argument_cell-x.result % 8 = rw (c.in-Ok-Switch.is, c.in-Ok-Switch.field-0-is) at c.try_from.ensures.number_is in
+    switch-put c.args.text.now c.args.sw.now c.args.table.now c.args.k c.args.j _ c.requires c.argument_cell-x.ensures.is c.switches.result c.switch_for-v.result (sym e) c.switches.ensures.is
     c.switch_for-v.ensures (rw c.cell-in-Ok-Switch.ensures.0 at c.set_argument-in-Ok-Switch.ensures)
 
 pub returns : goal.returns
-returns c = none-kind c.args.text.now c.args.sw.now c.args.table.now c.args.k c.args.j _ c.requires c.cell_at-x.ensures c.try_from.ensures (λ e. search rules) (λ e. search rules)
+returns c = none-kind c.args.text.now c.args.sw.now c.args.table.now c.args.k c.args.j _ c.requires c.argument_cell-x.ensures.is c.try_from.ensures (λ e. search rules) (λ e. search rules)
 
 pub returns-2 : goal.returns-2
-returns-2 c = none-kind c.args.text.now c.args.sw.now c.args.table.now c.args.k c.args.j _ c.requires c.cell_at-x.ensures c.try_from.ensures (λ e. search rules) (λ e. search rules)
+returns-2 c = none-kind c.args.text.now c.args.sw.now c.args.table.now c.args.k c.args.j _ c.requires c.argument_cell-x.ensures.is c.try_from.ensures (λ e. search rules) (λ e. search rules)

@@ -1,12 +1,14 @@
 -- `names::met_before` meets its contract.
 use mathlib.Core.Path.{refl, ◌∙◌}
+use Rattle.lists.specs.BoolLaws.{some-if}
 use Rattle.names.specs.Names.{names_of}
-use Rattle.names.proofs.Lowest.{chosen, own-asked}
+use Rattle.names.proofs.Lowest.{own-asked}
 use Rattle.names.proofs.met_before.Goals as goal
 
 pub returns : goal.returns
 returns c =
     let a = c.args in
-    c.then_some.ensures
-    ∙ chosen _ _
-    ∙ own-asked a.text.now (names_of a.text.now a.before.now) (names_of a.text.now a.names.now) a.m c.has_name.ensures c.has_name-2.ensures refl
+    let e = c.place_of-at.ensures in
+    let n = c.length_of-len.ensures in
+    (rw e at c.then_some.ensures) ∙ some-if _ _
+    ∙ own-asked a.text.now (names_of a.text.now a.before.now) (names_of a.text.now a.names.now) a.m (rw (e, n) at c.has_name.ensures) (rw (e, n) at c.has_name-2.ensures) refl

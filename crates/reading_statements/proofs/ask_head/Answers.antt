@@ -7,7 +7,6 @@ use Rattle.acceptance.proofs.RowLaws.{answered}
 use Rattle.statements.specs.Faults.{decided, then, verdict_of}
 use Rattle.reading_statements.specs.GatheringLaws as gathering
 use Rattle.reading_statements.specs.QuestionLaws.{items-told, names-told, opening-told}
-use Rattle.progress.specs.ProgressLaws.{none-asked}
 use Rattle.reading_statements.proofs.ask_head.Goals as goal
 
 pub first_waiting-requires : goal.first_waiting-requires
@@ -40,7 +39,7 @@ returns c =
     let x = statement_at c.args.text.now n in
     let q = items-told c.args.text.now n e ∙ ap verdict_of c.in_ok-worst.was in
     let plain = answered _ q in
-    let first = j.tells.section.first_is ∙ none-asked c.is_none.result c.args.p.section c.is_none.ensures in
+    let first = j.tells.section.first_is in
     names-told d x first j.tells.edition.is (c.ask_operator-operator.ensures _ n j.headed (λ e. z (first ∙ e)))
     (c.decide-labels.ensures ∙ ap (decided 8) (gathering.labels-told j plain (rw c.first_waiting.ensures at c.label_fault.ensures)))
     (c.ask_names-named.ensures ∙ gathering.names-told j plain)

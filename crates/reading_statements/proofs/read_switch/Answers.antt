@@ -7,10 +7,19 @@ use Rattle.reading_statements.specs.GatheringLaws.{advanceable}
 use Rattle.reading_statements.specs.SwitchReadLaws.{held_most, listable, name-inside, whole-list, declarable-switch, read-switch}
 use Rattle.reading_statements.proofs.read_switch.Goals as goal
 
+pub slice_bounds-read_list-count : goal.slice_bounds-read_list-count
+slice_bounds-read_list-count c = let r = c.requires.met.reading in omega (arith, c.entries-held.ensures.is, held_most r.tabled, r.tabled.entry_room)
+
+pub slice_bounds-read_list-start : goal.slice_bounds-read_list-start
+slice_bounds-read_list-start c = let r = c.requires.met.reading in omega (arith, c.entries-held.ensures.is, held_most r.tabled, r.tabled.entry_room)
+
+pub overflow_sub-held : goal.overflow_sub-held
+overflow_sub-held c = let r = c.requires.met.reading in omega (arith, c.entries-held.ensures.is, held_most r.tabled)
+
 pub read_list-l-requires : goal.read_list-l-requires
 read_list-l-requires c =
     let r = c.requires.met.reading in
-    listable r.judging.headed r.judging.low (omega (arith, c.entries-held.ensures.is, held_most r.tabled)) r.tabled.entry_room refl
+    listable r.judging.headed r.judging.low
 
 pub ask_head-asked-requires : goal.ask_head-asked-requires
 ask_head-asked-requires c =
@@ -33,7 +42,9 @@ bounds-names-first_waiting c = let p = c.requires in omega (arith, c.first_waiti
 pub admit_switch-verdict-requires : goal.admit_switch-verdict-requires
 admit_switch-verdict-requires c =
     let p = c.requires in
-    declarable-switch p.some (c.is_by_name-named.ensures ∙ ap is_by_name c.keyword.ensures) c.read_list-l.ensures c.ask_head-asked.result c.first_of-early.result c.ask_head-asked.ensures (c.first_of-early.ensures ∙ ap (then (verdict_of c.ask_head-asked.result)) c.decide.ensures) c.entries-held.ensures.is (rw c.first_waiting.ensures at c.switch_of-d.ensures) p.met.reading (omega arith)
+    let r = p.met.reading in
+    declarable-switch p.some (c.is_by_name-named.ensures ∙ ap is_by_name c.keyword.ensures) c.read_list-l.ensures c.ask_head-asked.result c.first_of-early.result c.ask_head-asked.ensures (c.first_of-early.ensures ∙ ap (then (verdict_of c.ask_head-asked.result)) c.decide.ensures) c.entries-held.ensures.is
+    (omega (arith, c.entries-held.ensures.is, held_most r.tabled, r.tabled.entry_room)) (rw c.first_waiting.ensures at c.switch_of-d.ensures) r (omega arith) c.min.ensures
 
 pub finish-requires : goal.finish-requires
 finish-requires c = advanceable c.requires.met.reading.judging
@@ -41,6 +52,8 @@ finish-requires c = advanceable c.requires.met.reading.judging
 pub returns : goal.returns
 returns c =
     let p = c.requires in
+    let r = p.met.reading in
     λ lines.
-    read-switch p.some (c.is_by_name-named.ensures ∙ ap is_by_name c.keyword.ensures) c.read_list-l.ensures c.ask_head-asked.result c.first_of-early.result c.ask_head-asked.ensures (c.first_of-early.ensures ∙ ap (then (verdict_of c.ask_head-asked.result)) c.decide.ensures) c.entries-held.ensures.is (rw c.first_waiting.ensures at c.switch_of-d.ensures) c.admit_switch-verdict.result
-    c.admit_switch-verdict.ensures (omega arith) c.finish.ensures
+    read-switch p.some (c.is_by_name-named.ensures ∙ ap is_by_name c.keyword.ensures) c.read_list-l.ensures c.ask_head-asked.result c.first_of-early.result c.ask_head-asked.ensures (c.first_of-early.ensures ∙ ap (then (verdict_of c.ask_head-asked.result)) c.decide.ensures) c.entries-held.ensures.is
+    (omega (arith, c.entries-held.ensures.is, held_most r.tabled, r.tabled.entry_room)) (rw c.first_waiting.ensures at c.switch_of-d.ensures) c.admit_switch-verdict.result
+    c.admit_switch-verdict.ensures _ refl (omega arith) (rw c.unchanged.ensures at c.finish.ensures)

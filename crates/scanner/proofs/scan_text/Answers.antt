@@ -1,6 +1,7 @@
 -- `scanner::scan_text` meets its contract.
 use Rattle.std.proofs.Common.{refl, sym, ◌∙◌}
-use Rattle.scanner.proofs.Loops.{byte-is, scan-on, scan-ends, scan-out}
+use Rattle.lists.specs.BoolLaws.{byte-is}
+use Rattle.scanner.proofs.Loops.{scan-on, scan-ends, scan-out}
 use Rattle.scanner.proofs.scan_text.Goals as goal
 
 pub returns-then-ends_text : goal.returns-then-ends_text

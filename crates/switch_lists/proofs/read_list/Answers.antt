@@ -2,15 +2,14 @@
 use mathlib.Core.Path.{sym, ap, ◌∙◌}
 use mathlib.Core.Bool.{Bool, cond, not, ◌&&◌, ◌||◌}
 use native.Mathlib.Omega.{arith}
-use lib.Dec.{leb}
 use Prim.Native.Nat.{ℕ, ◌+◌}
+use Rattle.lists.specs.BoolLaws.{byte-is}
 use Rattle.statements.specs.Faults.{lower}
 use Rattle.statements.specs.Faults.{Fault}
 use Rattle.statements.specs.StatementAt.{fault_of}
 use Rattle.heads.specs.HeadLaws.{place-if}
 use Rattle.switch_lists.specs.Switches.{is_text, colon_left}
-use Rattle.switch_lists.proofs.Reading.{one_if, list_read, reading-more}
-use Rattle.scanner.proofs.Loops.{byte-is}
+use Rattle.switch_lists.proofs.Reading.{one_if, list_read, over-if, reading-more}
 use Rattle.switch_lists.proofs.read_list.Goals as goal
 
 pub returns-then-stops : goal.returns-then-stops
@@ -33,5 +32,5 @@ loop-before-preserved c = let uᵛ = c.loop-before.invariant in
     rw c.is-word.ensures
     (reading-more uᵛ kᵛ onᵛ aᵛ c.is_name-name.ensures c.put_item.ensures (omega arith) (omega arith)
     (c.lower-fault.ensures ∙ ap (λ (f : Fault). lower c.lower-a.result f) (c.then_some.ensures ∙ place-if _ _ ∙ textedᵛ))
-    (c.lower-over.ensures ∙ ap (λ (f : Fault). lower c.loop-before.over f) (c.then_some-in-loop-before.ensures ∙ place-if _ _ ∙ ap (λ (b : Bool). fault_of (one_if (b && leb 128 (c.args.held + c.loop-before.words)) at)) c.is-word.ensures)) c.worse-w.ensures
+    (c.lower-over.ensures ∙ ap (λ (f : Fault). lower c.loop-before.over f) (over-if _ _ c.then_some-in-loop-before.ensures c.is-word.ensures)) c.worse-w.ensures
     (ap (λ (j : ℕ). c.loop-before.words + j) (c.from-words.ensures ∙ byte-is _ ∙ ap (λ (b : Bool). cond b 1 0) c.is-word.ensures)))

@@ -1,9 +1,0 @@
--- `declaring_switches::put_entries` meets its contract.
-use Prim.Native.Nat.{◌+◌}
-use Rattle.layout.specs.Cells.{cell}
-use Rattle.packed.specs.Packed.{table_of}
-use Rattle.declaring_switches.proofs.Entries.{Filling}
-use Rattle.declaring_switches.proofs.put_entries.Given as goal
-
-abbrev pub invariant-loop-entry : goal.invariant-loop-entry
-invariant-loop-entry l = Filling l.text l.fn.d l.initial.table l.table (cell (table_of l.initial.table) 3 + l.entry-index)
