@@ -7,6 +7,7 @@ use Rattle.std.proofs.lemmas.Bool.{false≢true}
 use Rattle.std.proofs.lemmas.List.Quantifiers.{position-Some}
 use borrow.Author.Tests.{eqb-true, ne_eqb}
 use lib.Dec.{T}
+use lib.Seq.{drop-length}
 use Rattle.layout.specs.Cells.{tab}
 use Rattle.lists.specs.Lists.{ahead, bytes_equal, keep}
 use Rattle.lists.specs.ListLaws.{same_bytes-eq}
@@ -22,10 +23,6 @@ tab-row : {X : Type 0} (g : ℕ → X) (xs : List ℕ) → tab (length xs) (λ k
 unfolding tab
 tab-row g [] = refl
 tab-row g (x ∷ xs) = ap (λ l. g x ∷ l) (tab-row g xs)
-
-drop-all : (xs : List ℕ) → drop (length xs) xs ≡ []
-drop-all [] = refl
-drop-all (x ∷ xs) = drop-all xs
 
 drop-here : (xs : List ℕ) (k : ℕ) → k < length xs → drop k xs ≡ get_or xs k 0 ∷ drop (suc k) xs
 drop-here [] k h = absurd (omega arith)
@@ -45,7 +42,7 @@ module _ (p : ℕ → Bool) where
   pub found-none : (xs : List ℕ) → position p xs ≡ None → keep p xs ≡ []
   found-none xs e =
       let z : ahead p xs ≡ length xs = sym (position_or_length p xs) ∙ ap (λ r. unwrap_or r (length xs)) e in
-      keep-ahead xs ∙ ap (λ (k : ℕ). keep p (drop k xs)) z ∙ ap (keep p) (drop-all xs)
+      keep-ahead xs ∙ ap (λ (k : ℕ). keep p (drop k xs)) z ∙ ap (keep p) (drop-length xs)
 
   pub found-some : (xs : List ℕ) (k : ℕ) → position p xs ≡ Some k → (k < length xs) × (keep p xs ≡ get_or xs k 0 ∷ keep p (drop (k + 1) xs))
   found-some xs k e =

@@ -6,9 +6,8 @@ use Rattle.macros.specs.Expansion.{called_by, argument_faults, places_of}
 use Rattle.macros.specs.Macros.{Macro}
 use Rattle.macros.specs.Pieces.{Change}
 use Rattle.macros.specs.Prepared.{piece_faults}
-use Rattle.macro_code.specs.Bounds.{far}
 use Rattle.macro_code.specs.Code.{high, is_call, call_in, body_in, macro_in, macros_in}
-use Rattle.macro_code.specs.Known.{Only, Singles}
+use Rattle.macro_code.specs.Known.{Only}
 use Rattle.macro_code.specs.Places.{kind_cell, name_cell, typed_kind}
 use Rattle.statements.specs.Faults.{lower}
 use Rattle.statements.specs.StatementAt.{fault_of}
@@ -31,11 +30,6 @@ pub record Next (s c firsts : List ℕ) (n : ℕ) (w : List ℕ) (from r : ℕ) 
 pub record Finds (s c firsts : List ℕ) (n : ℕ) (w : List ℕ) (r : Option ℕ) : Type 0 where
   pub once_is : is_some r ≡ eqb (length (called_by (macros_in s c firsts n) w)) 1
   pub only : IfSome r (λ k. Only s c firsts n w k)
-
--- a cell of a call, and of each macro whether it is the only one of its name
-pub record Seekable (s c firsts : List ℕ) (n : ℕ) (singles : List ℕ) (i : ℕ) : Type 0 where
-  pub low : i < far
-  pub singles_are : Singles s c firsts n singles
 
 -- a change that is a call by a typed name
 abbrev pub is_typed_call : List ℕ → ℕ → Bool

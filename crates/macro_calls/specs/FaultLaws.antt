@@ -147,7 +147,8 @@ module _ (d : Call) where
   unfolding faults_of lowest
   told-unknown ms e = rw e (record { unknown_is = refl; uneven_is = refl })
 
-  only-uneven : (m : Macro) → places_of 64 (argument_faults d m) ≡ []
+  -- of 65 alone
+  pub only-uneven : (m : Macro) → places_of 64 (argument_faults d m) ≡ []
   unfolding argument_faults
   only-uneven m = go (ltb (length d.args) (length m.params)) (take 1 (drop (length m.params) d.arg_places))
     where

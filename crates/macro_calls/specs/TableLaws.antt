@@ -6,6 +6,7 @@ use mathlib.Core.List.{List, [], ◌∷◌, ◌++◌, append_assoc}
 use Prim.Native.Nat.{ℕ, zero, suc, ◌+◌, ◌<◌, ◌≤◌}
 use Rattle.std.proofs.Math.Decide.{dec_lt}
 use Rattle.std.proofs.Math.ListN.{length}
+use Rattle.std.proofs.lemmas.List.{nil_from_length}
 use Rattle.layout.specs.Cells.{tab}
 use Rattle.lists.specs.Lists.{each, keep}
 
@@ -47,10 +48,6 @@ module _ {X : Type 0} (q : X → Bool) where
     pub keep-not : q x ≡ false → keep q (x ∷ xs) ≡ keep q xs
     keep-not e = rw e refl
 
-  none_left : (xs : List X) → length xs ≡ 0 → xs ≡ []
-  none_left [] h = refl
-  none_left (x ∷ xs) h = absurd (omega (arith, h))
-
   some-kept : (n : ℕ) (f : ℕ → X) (k : ℕ) → k < n → q (f k) ≡ true → 0 < length (keep q (tab n f))
   unfolding tab
   some-kept zero f k h t = absurd (not-suc-le-zero h)
@@ -70,7 +67,7 @@ module _ {X : Type 0} (q : X → Bool) where
   one_kept zero f k h t l = absurd (not-suc-le-zero h)
   one_kept (suc n) f zero h t l =
       let same = keep-this (f zero) (tab n (λ i. f (suc i))) t in
-      same ∙ ap (λ zs. f zero ∷ zs) (none_left (keep q (tab n (λ i. f (suc i)))) (omega (arith, ap length same, l)))
+      same ∙ ap (λ zs. f zero ∷ zs) (nil_from_length (keep q (tab n (λ i. f (suc i)))) (omega (arith, ap length same, l)))
   one_kept (suc n) f (suc k) h t l = go (q (f zero)) refl (one_kept n (λ i. f (suc i)) k (le_of_suc-le-suc h) t)
     where
       g : ℕ → X

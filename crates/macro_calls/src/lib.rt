@@ -1,16 +1,16 @@
 // The calls by a typed name: the macro that each calls, and questions 64 and 65 "as typed, in the list too".
 #![tactic(auto)]
 
-ghost use Rattle.std.specs.Prelude.{◌≡◌, true, ◌+◌, ◌≤◌, ◌<◌, length, Some, get_or, position};
+ghost use Rattle.std.specs.Prelude.{◌≡◌, true, ◌&&◌, cond, ◌+◌, ◌/◌, ◌≤◌, ◌<◌, ltb, length, Some, get_or, set, position};
 ghost use Rattle.lists.specs.Lists.{each, bytes_equal};
 ghost use Rattle.macros.specs.Prepared.{piece_faults};
-ghost use Rattle.macro_code.specs.Code.{bytes_at, change_in, body_in, macros_in};
+ghost use Rattle.macro_code.specs.Code.{high, bytes_at, change_in, body_in, macros_in};
 ghost use Rattle.macro_code.specs.Known.{Singles};
-ghost use Rattle.macro_code.specs.Places.{half, name_cell};
+ghost use Rattle.macro_code.specs.Places.{half, name_cell, macros};
 ghost use Rattle.macro_code.specs.Bounds.{near, far};
-ghost use Rattle.macro_calls.specs.Calls.{is_typed_call, Finds, Seekable, Counts, change_faults, typed_in, Told, both_of};
+ghost use Rattle.macro_calls.specs.Calls.{is_typed_call, Finds, Counts, change_faults, typed_in, Told, both_of};
 
-use macro_code::{Change, CodePlaces, Coded, Given};
+use macro_code::{Change, CodePlaces, Coded, Given, argument_cell};
 use statements::{Fault, lower};
 
 // "Each called macro in the list once? 64. Are there as many arguments as parameters? 65": the lowest place at fault of each.
@@ -71,33 +71,47 @@ pub fn find_singles(list: &Listed, singles: &mut [u8])
     }
 }
 
-// Whether a hint names a macro that alone in the list has the name.
-fn is_single(list: &Listed, singles: &[u8], hint: usize, name: &[u8]) -> bool
-    requires { Singles list.now.coded.text.now list.now.coded.code.now list.now.firsts.now (length list.now.firsts.now) singles.now }
-    ensures { result ≡ true → Finds list.now.coded.text.now list.now.coded.code.now list.now.firsts.now (length list.now.firsts.now) name.now (Some hint) }
-{
-    let Some(first) = list.firsts.get(hint) else {
-        return false
-    };
-    singles.get(hint).copied().unwrap_or(0) == 1 && has_name(&list.coded, *first, name)
-}
-
 // Where the hint of a call is kept: the stars of two calls stand more than one byte apart.
-fn hint_at(coded: &Coded, i: usize) -> usize {
+fn hint_at(coded: &Coded, i: usize) -> usize
+    ensures { result ≡ high coded.now.code.now i / 2 }
+{
     coded.high(i) / 2
 }
 
-// The number of the macro that alone in the list has the typed name of the call at `i`. The hint for it is tried first.
-pub fn find_target(list: &Listed, singles: &[u8], hints: &[u16], i: usize) -> Option<usize>
-    requires { Seekable list.now.coded.text.now list.now.coded.code.now list.now.firsts.now (length list.now.firsts.now) singles.now i }
-    ensures { Finds list.now.coded.text.now list.now.coded.code.now list.now.firsts.now (length list.now.firsts.now) (bytes_at list.now.coded.text.now list.now.coded.code.now (i + name_cell)) result }
-{
-    let name = list.coded.bytes_at(i + CodePlaces::NAME);
-    let hint = usize::from(hints.get(hint_at(&list.coded, i)).copied().unwrap_or(0));
-    if is_single(list, singles, hint, name) {
-        return Some(hint);
+// A list of macros; whether each is the only one of its name, and hints for the calls.
+#[derive(Clone, Copy, Debug, PartialEq, Eq)]
+pub struct Hinted<'a> {
+    pub listed: Listed<'a>,
+    pub singles: &'a [u8],
+    pub hints: &'a [u16],
+    ghost singles_are: { Singles listed.coded.text.now listed.coded.code.now listed.firsts.now (length listed.firsts.now) singles.now },
+}
+
+impl<'a> Hinted<'a> {
+    // Whether a hint names a macro that alone in the list has the name.
+    fn is_single(&self, hint: usize, name: &[u8]) -> bool
+        ensures { result ≡ true → Finds self.now.listed.coded.text.now self.now.listed.coded.code.now self.now.listed.firsts.now (length self.now.listed.firsts.now) name.now (Some hint) }
+    {
+        let Some(first) = self.listed.firsts.get(hint) else {
+            return false
+        };
+        self.singles.get(hint).copied().unwrap_or(0) == 1
+            && has_name(&self.listed.coded, *first, name)
     }
-    find_macro(list, name)
+
+    // The number of the macro that alone in the list has the typed name of the call at `i`. The hint for it is tried first.
+    pub fn find_target(&self, i: usize) -> Option<usize>
+        requires { i < far }
+        ensures { Finds self.now.listed.coded.text.now self.now.listed.coded.code.now self.now.listed.firsts.now (length self.now.listed.firsts.now) (bytes_at self.now.listed.coded.text.now self.now.listed.coded.code.now (i + name_cell)) result }
+    {
+        let coded = &self.listed.coded;
+        let name = coded.bytes_at(i + CodePlaces::NAME);
+        let hint = usize::from(self.hints.get(hint_at(coded, i)).copied().unwrap_or(0));
+        if self.is_single(hint, name) {
+            return Some(hint);
+        }
+        find_macro(&self.listed, name)
+    }
 }
 
 pub fn is_typed_call(coded: &Coded, i: usize) -> bool
@@ -121,7 +135,7 @@ pub fn count_fault(coded: &Coded, i: usize, m: usize) -> Fault
         return Some(coded.high(i + CodePlaces::NAME));
     }
     if taken < given {
-        return Some(coded.high(i + CodePlaces::ARGUMENTS + CodePlaces::GIVEN_SIZE * taken));
+        return Some(coded.high(argument_cell(i, taken)));
     }
     None
 }
@@ -142,8 +156,10 @@ fn both(a: Faults, b: Faults) -> Faults
     }
 }
 
-// The macro of a call, for the next time.
-fn keep_hint(hints: &mut [u16], at: usize, k: usize) {
+// The macro of a call, for the next time, where there is room. What a hint says is asked again, so no promise of the others rests on it.
+fn keep_hint(hints: &mut [u16], at: usize, k: usize)
+    ensures { hints.new ≡ cond (ltb at (length hints.old) && ltb k macros) (set hints.old at k) hints.old }
+{
     if at < hints.len() && k < CodePlaces::MACROS {
         hints[at] = k as u16;
     }

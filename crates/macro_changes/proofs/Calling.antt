@@ -64,10 +64,6 @@ same_place p None = let e : min p p ≡ p = omega arith in ap Some e
 same_place p (Some q) = let e : min p (min p q) ≡ min p q = omega arith in ap Some e
 
 -- the end
-pub one_most : (b : Bool) → cond b 1 0 ≤ 1
-one_most true = le_refl 1
-one_most false = omega arith
-
 end-open : (closing : Bool) (t : spec.Element) → t.sort ≡ end → shuts closing t ≡ false
 end-open true t e = rw e refl
 end-open false t e = refl

@@ -127,7 +127,7 @@ module _ {c d : List ℕ} {u : ℕ} (k : Kept c d u) where
   pub parameters-same : (s : List ℕ) (x : Scope) → (first_in x) + (count_in x) ≤ u → parameters_of s d x ≡ parameters_of s c x
   parameters-same s x h = parameters-agree (kept-agree k) s x (omega arith) h
 
-behind-from : (c : List ℕ) (n i : ℕ) → i ≤ behind_changes c i n
+pub behind-from : (c : List ℕ) (n i : ℕ) → i ≤ behind_changes c i n
 unfolding behind_changes
 behind-from c zero i = le_refl i
 behind-from c (suc n) i = let h = behind-from c n (i + size_at c i) in omega arith

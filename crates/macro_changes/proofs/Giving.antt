@@ -1,14 +1,16 @@
 -- Elements one by one, and what a call gives.
 use mathlib.Core.Path.{◌≡◌, refl, ap, sym, ◌∙◌}
-use mathlib.Core.Bool.{Bool, true, false, cond, not, ◌&&◌, ◌||◌, true≢false, false≢true}
+use mathlib.Core.Bool.{Bool, true, false, cond, not, ◌&&◌, ◌||◌, false≢true, and-true}
 use mathlib.Core.List.{List, [], ◌∷◌, ◌++◌, map, append_assoc}
-use Prim.Native.Nat.{ℕ, min, ◌+◌, ◌*◌, ◌-◌, ◌/◌, ◌≤◌, ◌<◌}
+use Prim.Native.Nat.{ℕ, ◌+◌, ◌*◌, ◌-◌, ◌/◌, ◌<◌}
 use native.Mathlib.Omega.{arith}
-use Rattle.std.specs.Prelude.{Option, Some, None, IfSome, is_some, unwrap_or}
+use Rattle.std.specs.Prelude.{Option, Some, None, is_some, unwrap_or}
 use Rattle.std.specs.Bool.{then_some}
 use lib.Dec.{ltb}
 use lib.ListN.{length, set}
 use borrow.Author.Tests.{lt-ltb, le-ltb}
+use Rattle.std.proofs.lemmas.Bool.{or_parts}
+use Rattle.lists.specs.SearchLaws.{any-ahead}
 use Rattle.layout.specs.Cells.{tab}
 use Rattle.layout.proofs.CellLaws.{length-tab}
 use Rattle.lexer.specs.Tokens.{part}
@@ -21,7 +23,7 @@ use Rattle.statements.specs.StatementAt.{fault_of}
 use Rattle.syntax.specs.Verdict.{lowest}
 use Rattle.macros.specs.Elements as spec
 use Rattle.macros.specs.Elements.{is_word, is_end, is_identifier, places_in, until, from}
-use Rattle.macros.specs.Pieces.{Given, given_of, is_argument, is_parameter}
+use Rattle.macros.specs.Pieces.{Given, given_of, number_of, is_argument, is_parameter}
 use Rattle.macro_code.specs.Code.{high, paired, bytes_at, given_in}
 use Rattle.macro_code.specs.declared.Given.TheVariants.{Typed, Parameter, Joined}
 use Rattle.macro_elements.specs.ElementAt.{elements_from, argument_value, Held, FirstElement, FirstBefore}
@@ -30,17 +32,9 @@ use Rattle.macro_changes.specs.Changing.{Kept, parameters_of, shuts, inside, giv
 use Rattle.macro_changes.specs.declared.Answer.{Answer}
 use Rattle.macro_changes.specs.Changing.{Scope, first_in, count_in}
 use Rattle.macro_changes.proofs.Cells.{tab-cong, tab-last, kept-none, kept_on, parameters-same, given-same, given-written, place-written, given-kept}
-use Rattle.macro_changes.proofs.Searching.{any-ahead, until-on, until-off, from_on}
-
-pub neither : (a b : Bool) → (a || b) ≡ false → (a ≡ false) × (b ≡ false)
-neither true b e = absurd (true≢false e)
-neither false b e = (refl, e)
-
-pub lower-assoc : (a b c : Fault) → lower (lower a b) c ≡ lower a (lower b c)
-lower-assoc None b c = refl
-lower-assoc (Some p) None c = refl
-lower-assoc (Some p) (Some q) None = refl
-lower-assoc (Some p) (Some q) (Some r) = let e : min (min p q) r ≡ min p (min q r) = omega arith in ap Some e
+use Rattle.lists.specs.SearchLaws.{any-ahead}
+use Rattle.macro_changes.proofs.Searching.{until-on, until-off, from_on}
+pub use Rattle.statements.specs.LowerLaws.{lower-assoc}
 
 -- one test of an element before those of others
 pub keep-first : (q : spec.Element → Bool) (t : spec.Element) (ts : List spec.Element) → places_in (keep q (t ∷ ts)) ≡ cond (q t) (t.at ∷ []) [] ++ places_in (keep q ts)
@@ -77,7 +71,7 @@ module _ {s : List ℕ} (closing : Bool) {n : ℕ} {t : Element} (k : InsideAt s
 
 pub given_first : {s : List ℕ} {closing : Bool} {n : ℕ} {t : Element} → FirstBefore (ends_given closing) s n t → GivenAt s closing n t
 given_first {s} {closing} {n} {t} k =
-    let z = neither (shuts closing (argument_value s t)) (is_end (argument_value s t)) k.fails in
+    let z = or_parts (shuts closing (argument_value s t)) (is_end (argument_value s t)) k.fails in
     given_here closing (record { first = k.first; fails = z.0 }) z.1
 
 -- where the first of either end is met at once, no stretch is left between them
@@ -102,41 +96,45 @@ module _ (s c : List ℕ) (x : Scope) {t : Element} (held : Held s t) where
   abbrev ps : List (List ℕ)
   ps = parameters_of s c x
 
-  is_found : {w : List ℕ} {r : ℕ} → Found s c x w r → is_parameter ps w ≡ ltb r (count_in x)
-  is_found {w} {r} f =
-      any-ahead (bytes_equal w) ps ∙ rw (length-tab (count_in x) (λ j. bytes_at s c ((first_in x) + j)), ← f.is) refl
+  is_found : (w : List ℕ) → is_parameter ps w ≡ ltb (number_of ps w) (count_in x)
+  is_found w = any-ahead (bytes_equal w) ps ∙ rw (length-tab (count_in x) (λ j. bytes_at s c ((first_in x) + j))) refl
 
-  and_one : (a : Bool) → (a && true) ≡ a
-  and_one true = refl
-  and_one false = refl
+  found-some : (w : List ℕ) (r : Option ℕ) → Found s c x w r → is_parameter ps w ≡ is_some r
+  found-some w None f = is_found w ∙ le-ltb (number_of ps w) (count_in x) (omega (arith, f))
+  found-some w (Some k) f = is_found w ∙ lt-ltb (number_of ps w) (count_in x) (omega (arith, f.0, f.1))
 
-  listed-some : (o : Option ℕ) (n : ℕ) → IfSome o (λ k. k < n) → is_some o ≡ ltb (unwrap_or o n) n
-  listed-some (Some k) n h = sym (lt-ltb k n h)
-  listed-some None n h = sym (le-ltb n n (omega arith))
+  found-number : (w : List ℕ) (r : Option ℕ) → Found s c x w r → unwrap_or r (count_in x) ≡ number_of ps w
+  found-number w None f = sym f
+  found-number w (Some k) f = f.0
 
-  pub joined-answer : {i : Bool} {b : ℕ} → t.joined ≡ Some b → (count_in x) < 65536 → (r : Option ℕ) → Found s c x (part s (t.end + 1) b) (unwrap_or r (count_in x)) → IfSome r (λ k. k < (count_in x))
+  found-low : (w : List ℕ) (r : Option ℕ) → Found s c x w r → (count_in x) < 65536 → unwrap_or r (count_in x) < 65536
+  found-low w None f few = few
+  found-low w (Some k) f few = omega (arith, f.1, few)
+
+  pub joined-answer : {i : Bool} {b : ℕ} → t.joined ≡ Some b → (count_in x) < 65536 → (r : Option ℕ) → Found s c x (part s (t.end + 1) b) r
       → i ≡ is_identifier (argument_value s t) → Judged s c x t (record { given = Joined (unwrap_or r (count_in x)); joins = i && is_some r })
   unfolding given_of given_as
-  joined-answer {i} z few r f l e =
+  joined-answer {i} {b} z few r f e =
+      let w = part s (t.end + 1) b in
       record {
-        number_low = omega (arith, f.most);
-        given_is = rw (z, f.is) refl;
-        joins_is = rw (z, listed-some r (count_in x) l) (rw (is_found f, ← e) (sym (and_one (i && ltb (unwrap_or r (count_in x)) (count_in x)))));
+        number_low = found-low w r f few;
+        given_is = rw (z, found-number w r f) refl;
+        joins_is = rw z (rw (found-some w r f, ← e) (sym (and-true (i && is_some r))));
       }
 
   pub other-answer : t.joined ≡ None → is_word (argument_value s t) ≡ false → Judged s c x t (record { given = Typed; joins = true })
   unfolding given_of given_as
   other-answer z w = record { number_low = omega arith; given_is = rw (z, w) refl; joins_is = rw z refl }
 
-  module _ (z : t.joined ≡ None) (w : is_word (argument_value s t) ≡ true) {r : ℕ} (f : Found s c x (part s t.at t.end) r) where
-    pub parameter-answer : r < (count_in x) → (count_in x) < 65536 → Judged s c x t (record { given = Parameter r; joins = true })
+  module _ (z : t.joined ≡ None) (w : is_word (argument_value s t) ≡ true) where
+    pub parameter-answer : {k : ℕ} → Found s c x (part s t.at t.end) (Some k) → (count_in x) < 65536 → Judged s c x t (record { given = Parameter k; joins = true })
     unfolding given_of given_as
-    parameter-answer h few =
-        record { number_low = omega arith; given_is = rw (z, w, is_found f, lt-ltb r (count_in x) h, f.is) refl; joins_is = rw z refl }
+    parameter-answer {k} f few =
+        record { number_low = omega (arith, f.1, few); given_is = rw (z, w, found-some (part s t.at t.end) (Some k) f, f.0) refl; joins_is = rw z refl }
 
-    pub typed-answer : (count_in x) ≤ r → Judged s c x t (record { given = Typed; joins = true })
+    pub typed-answer : Found s c x (part s t.at t.end) None → Judged s c x t (record { given = Typed; joins = true })
     unfolding given_of given_as
-    typed-answer h = record { number_low = omega arith; given_is = rw (z, w, is_found f, le-ltb r (count_in x) h) refl; joins_is = rw z refl }
+    typed-answer f = record { number_low = omega arith; given_is = rw (z, w, found-some (part s t.at t.end) None f) refl; joins_is = rw z refl }
 
 -- One element more of what a call gives
 module _ {s m c : List ℕ} {x : Scope} {n u : ℕ} (q : Reading s m c x n u) where

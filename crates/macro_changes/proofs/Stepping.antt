@@ -5,8 +5,8 @@ use mathlib.Core.List.{List, [], ◌∷◌, ◌++◌, map, append_assoc, append-
 use Prim.Native.Nat.{ℕ, zero, suc, ◌+◌, ◌*◌, ◌≤◌, ◌<◌}
 use native.Mathlib.Nat.{le_refl}
 use native.Mathlib.Omega.{arith}
-use lib.Dec.{eqb}
 use lib.ListN.{length, take, drop, length-take, length-drop}
+use Rattle.statements.specs.LowerLaws.{lower-right}
 use Rattle.layout.specs.Cells.{tab}
 use Rattle.lexer.specs.Tokens.{part}
 use Rattle.lists.specs.Lists.{filled, head_or, if_any}
@@ -15,14 +15,14 @@ use Rattle.std.specs.Prelude.{None, Some}
 use Rattle.statements.specs.Faults.{lower}
 use Rattle.statements.specs.FaultLaws.{fault-both, no-fault}
 use Rattle.statements.specs.StatementAt.{fault_of}
-use Rattle.syntax.specs.Items.{Sort, same_sort}
-use Rattle.syntax.specs.Items.Sort.{separator, word, colon, end, text, wrong}
+use Rattle.syntax.specs.Items.Sort.{end}
 use Rattle.macros.specs.Elements as spec
 use Rattle.macros.specs.Elements.{is_word, is_end, is_star, is_mark, end_of, places_in, until, from}
 use Rattle.macros.specs.Pieces.{Given, Change, given_of, is_parameter, number_of, name_faults, call_of, joins_well, call_faults, word_changes, call_stop, call_changes, section_changes, form_faults}
 use Rattle.macros.specs.Pieces.Given.{typed, parameter, joined}
 use Rattle.macros.specs.Pieces.Piece.{value, called}
 use Rattle.macros.proofs.StepLaws.{at_plain, at-star, call-first, changes-plain, changes-star, form-plain, form-star}
+use Rattle.macros.proofs.SortLaws.{star-no-end}
 use Rattle.macro_code.specs.Code.{high, given_in, paired, changes_in, change_in, size_at, behind_changes}
 use Rattle.std.specs.Prelude.{Option, Some, None, IfSome, unwrap_or}
 use Rattle.macro_code.specs.Kinds.{parameter_of}
@@ -162,17 +162,6 @@ unfolding tab
 no-parameters s c None e = refl
 no-parameters s c (Some p) e = absurd (true≢false e)
 
-star-sort : (t : spec.Element) → is_star t ≡ true → is_end t ≡ false
-star-sort t h = go t.sort h
-  where
-    go : (k : Sort) → (same_sort wrong k && eqb 42 t.byte) ≡ true → same_sort end k ≡ false
-    go separator e = absurd (false≢true e)
-    go word e = absurd (false≢true e)
-    go colon e = absurd (false≢true e)
-    go end e = absurd (false≢true e)
-    go text e = absurd (false≢true e)
-    go wrong e = refl
-
 unnamed : (ps : List (List ℕ)) (t : spec.Element) → call_faults ps t [] ≡ [] → ⊥
 unfolding call_faults name_faults
 unnamed ps t e = true≢false (ap filled e)
@@ -180,10 +169,6 @@ unnamed ps t e = true≢false (ap filled e)
 no-tab : (f : ℕ → Given) (h : spec.Element → Given) (y : spec.Element) (ts : List spec.Element) → tab zero f ≡ map h (y ∷ ts) → ⊥
 unfolding tab
 no-tab f h y ts e = false≢true (ap filled e)
-
-lower-right : (f : Fault) → lower f None ≡ f
-lower-right None = refl
-lower-right (Some p) = refl
 
 module _ {s c d : List ℕ} {x : Scope} {u : ℕ} {t : Element} (q : Started s c x t u) (star : is_star (argument_value s t) ≡ true)
     {r : Step} (g : GivenUp s c d x t.next (u + 2) r) {name : Fault} (nm : Named s (is_some x) t.at t.next name) where
@@ -279,11 +264,11 @@ module _ {s c d : List ℕ} {x : Scope} {u : ℕ} {t : Element} (q : Started s c
                   faults =
                       (λ i. lower (call-fault i) (fault_of (form_faults (wrong_in closing ps) ps (after i))))
                       ∙ sym (fault-both (call_faults ps v given) (form_faults (wrong_in closing ps) ps (drop 1 (ends_from s closing t.next))))
-                      ∙ ap fault_of (sym (form-star (wrong_in closing ps) ps v (inside s closing t.next) star (star-sort v star)))
+                      ∙ ap fault_of (sym (form-star (wrong_in closing ps) ps v (inside s closing t.next) star (star-no-end v star)))
                       ∙ ap (λ (ts : List spec.Element). fault_of (form_faults (wrong_in closing ps) ps ts)) (sym inner);
                   changes_are =
                       (λ i. one-change i ++ changes_of closing ps stop (after i))
-                      ∙ sym (of-star closing ps stop v (inside s closing t.next) none-there star (star-sort v star))
+                      ∙ sym (of-star closing ps stop v (inside s closing t.next) none-there star (star-no-end v star))
                       ∙ ap (changes_of closing ps stop) (sym inner);
                   used_is = used-there;
                   rest = en.rest ∙ g.gives.rest ∙ sym (rest-on k);

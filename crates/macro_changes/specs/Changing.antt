@@ -5,7 +5,7 @@ use Rattle.lexer.specs.Tokens.{part}
 use Rattle.lists.specs.Lists.{if_any, keep}
 use Rattle.statements.specs.Faults.{Fault}
 use Rattle.std.specs.Bool.{then_some}
-use Rattle.std.specs.Prelude.{Option, None, Some, is_some, unwrap_or}
+use Rattle.std.specs.Prelude.{Option, MatchOption, None, Some, is_some, unwrap_or}
 use Rattle.statements.specs.Faults.{lower}
 use Rattle.statements.specs.StatementAt.{fault_of}
 use Rattle.macros.specs.Elements as spec
@@ -83,9 +83,10 @@ kind_in (Joined k) = place.joined_kind
 abbrev pub number_in : held.Given → ℕ
 number_in g = unwrap_or (parameter_of g) 0
 
-pub record Found (s c : List ℕ) (x : Scope) (w : List ℕ) (r : ℕ) : Type 0 where
-  pub most : r ≤ (count_in x)
-  pub is : r ≡ number_of (parameters_of s c x) w
+-- the number of the parameter with the bytes w, if there is one
+abbrev pub Found : List ℕ → List ℕ → Scope → List ℕ → Option ℕ → Type 0
+Found s c x w r =
+    MatchOption r (number_of (parameters_of s c x) w ≡ count_in x) (λ k. (k ≡ number_of (parameters_of s c x) w) × (k < count_in x))
 
 pub record Judging (s c : List ℕ) (x : Scope) (t : Element) : Type 0 where
   pub held : Held s t

@@ -2,7 +2,7 @@
 #![tactic(auto)]
 
 ghost use Rattle.std.specs.Option.{is_some};
-ghost use Rattle.std.specs.Prelude.{◌≡◌, ◌&&◌, ◌||◌, ◌+◌, [], ◌≤◌, ◌<◌, length, set, unwrap_or, IfSome};
+ghost use Rattle.std.specs.Prelude.{◌≡◌, ◌&&◌, ◌||◌, ◌+◌, [], ◌≤◌, ◌<◌, length, set};
 ghost use Rattle.lists.specs.Lists.{bytes_equal};
 ghost use Rattle.macros.specs.Elements.{is_text, is_listed};
 ghost use Rattle.macro_code.specs.Code.{paired, bytes_at};
@@ -90,6 +90,7 @@ struct Answer {
 }
 
 // Two numbers into a cell.
+// Here and in `macro_reading` the rows are lent as slices: a type `&mut [u32; N]` would be narrower than `requires`, which bounds the length.
 pub fn put(code: &mut [u32], i: usize, a: usize, b: usize)
     requires { (i < length code.old) × (a < half) × (b < half) }
     ensures { code.new ≡ set code.old i (paired a b) }
@@ -98,7 +99,7 @@ pub fn put(code: &mut [u32], i: usize, a: usize, b: usize)
 }
 
 // Two cells: of what is read its place, and what it is.
-fn put_two(code: &mut [u32], u: usize, a: usize, b: usize, kind: usize, number: usize)
+pub fn put_two(code: &mut [u32], u: usize, a: usize, b: usize, kind: usize, number: usize)
     requires room { u + kind_cell < length code.old }
     requires place { (a < half) × (b < half) }
     requires what { (kind < half) × (number < half) }
@@ -133,16 +134,10 @@ fn is_name(text: &[u8], code: &[u32], i: usize, name: &[u8]) -> bool
 // The number of the parameter with these bytes.
 fn find_parameter(text: &[u8], code: &[u32], x: Scope, name: &[u8]) -> Option<usize>
     requires { first_in x + count_in x ≤ length code.now }
-    ensures found { Found text.now code.now x name.now (unwrap_or result (count_in x)) }
-    ensures listed { IfSome result (λ k. k < count_in x) }
+    ensures { Found text.now code.now x name.now result }
 {
     let p = x?;
-    for i in 0..p.count {
-        if is_name(text, code, p.first + i, name) {
-            return Some(i);
-        }
-    }
-    None
+    (0..p.count).find(|k| is_name(text, code, p.first + *k, name))
 }
 
 // What is typed as itself.

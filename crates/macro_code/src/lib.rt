@@ -4,7 +4,7 @@
 ghost use Rattle.std.specs.Prelude.{◌≡◌, ◌+◌, ◌≤◌, ◌<◌, take, drop};
 ghost use Rattle.macro_code.specs.Bounds.{near, far, widest};
 ghost use Rattle.macro_code.specs.Changes.{StartsAt};
-ghost use Rattle.macro_code.specs.Code.{high, low, paired, bytes_at, size_at};
+ghost use Rattle.macro_code.specs.Code.{high, low, paired, bytes_at, argument_cell, size_at};
 ghost use Rattle.macro_code.specs.Kinds.{GivenAt, ChangeAt, parameter_of};
 ghost use Rattle.macro_code.specs.Places.{half, all_places};
 
@@ -30,8 +30,7 @@ impl Given {
     {
         match self {
             Given::Typed => None,
-            Given::Parameter(k) => Some(k),
-            Given::Joined(k) => Some(k),
+            Given::Parameter(k) | Given::Joined(k) => Some(k),
         }
     }
 }
@@ -90,6 +89,14 @@ pub fn pair(a: usize, b: usize) -> u32
     ensures { result ≡ paired a b }
 {
     (a as u32) * CodePlaces::HALF + (b as u32)
+}
+
+// The cell of an argument of a call.
+pub fn argument_cell(call: usize, k: usize) -> usize
+    requires { (call < far) × (k < half) }
+    ensures { (result ≡ argument_cell call k) × (result ≤ call + widest) }
+{
+    call + CodePlaces::ARGUMENTS + CodePlaces::GIVEN_SIZE * k
 }
 
 // The bytes of a text from a place on, so many, or as many as there are.
@@ -164,7 +171,7 @@ impl<'a> Coded<'a> {
         ensures { (result ≡ size_at self.now.code.now i) × (result ≤ widest) }
     {
         match self.change_at(i) {
-            Change::Call(n) => CodePlaces::ARGUMENTS + CodePlaces::GIVEN_SIZE * n,
+            Change::Call(n) => argument_cell(0, n),
             Change::Value(_) | Change::Nothing => CodePlaces::SMALL_SIZE,
         }
     }

@@ -1,5 +1,5 @@
 -- Elements follow one another, and what an apostrophe joins is one.
-use Rattle.std.specs.Prelude.{Option, Some, None, IfSome, unwrap_or, is_some}
+use Rattle.std.specs.Prelude.{Option, Some, None, unwrap_or, is_some}
 use Rattle.std.specs.Option.{is_none}
 use Rattle.std.proofs.lemmas.Option.{none-some, same_Some}
 use mathlib.Core.Path.{◌≡◌, refl, ap, sym, ◌∙◌, subst}
@@ -12,7 +12,8 @@ use native.Mathlib.Omega.{arith}
 use lib.Dec.{eqb}
 use lib.ListN.{length, get_or, take, drop, length-take, length-drop, drop_of_length-le}
 use lib.Seq.{drop-drop, get_or-drop}
-use borrow.Author.Tests.{eq-eqb, ne_eqb}
+use borrow.Author.Tests.{eq-eqb, ne_eqb, eqb-true}
+use Rattle.macros.proofs.PlaceLaws.{marked-length}
 use Rattle.lists.specs.Lists.{filled, if_any}
 use Rattle.scanner.specs.declared.Sort.{Sort}
 use Rattle.scanner.specs.Sorts.{sort_in}
@@ -24,17 +25,17 @@ use Rattle.syntax.proofs.ItemLaws.{reads_word, items-found}
 use Rattle.syntax.specs.Scan.{word_length, text_length, is_closed, text_found, Gap, gap_from, in_gap, passes, Found, found_here, found_in, found_after, items_then}
 use Rattle.syntax.specs.Scan.Gap.{clear, unclosed}
 use Rattle.syntax.specs.Scan.Found.{no_item, found}
+use Rattle.syntax.proofs.SortLaws.{same-sort}
 use Rattle.scanner.proofs.Loops.{drop_here, get_d-here}
 use Rattle.lexer.specs.declared.Token.{Token}
 use Rattle.lexer.specs.Tokens.{part, chars_of, item_of, found_by, TokenAt}
 use Rattle.lexer.proofs.Finding.{is_spelled, no-chars}
 use Rattle.macros.specs.Elements.{Element, element_of, end_of, is_word, is_mark, is_joined, link, linked}
 use Rattle.macros.specs.Marks.{byte_at, new_reader, marked}
-use Rattle.macros.proofs.PlainLaws.{equal}
-use Rattle.macro_elements.specs.ElementAt.{elements_from, argument_value, Lent, Held, JoinedEnd, TextEnd, FirstElement, NextElement}
+use Rattle.macro_elements.specs.ElementAt.{elements_from, argument_value, Lent, Held, JoinedEnd, TextEnd, FirstElement, NextElement, JoinsUpTo, JoinsNone}
 use Rattle.macro_elements.specs.declared.Element as code
 use Rattle.macro_elements.proofs.Bytes.{any-default}
-use Rattle.macro_elements.proofs.Marking.{length_marked, word-marked, bytes-marked, Copied, later, Joined, joined-here, byte-copied}
+use Rattle.macro_elements.proofs.Marking.{word-marked, bytes-marked, Copied, later, Joined, joined-here, byte-copied}
 
 -- A word that is found: its bytes, and the place behind it
 
@@ -69,20 +70,12 @@ wordly : {m : List ℕ} {n : ℕ} {t : Token} → TokenAt m n t → Wordly m (fo
 wordly {m} {n} {t} k = rw k.is at (wordly-after m (gap_from outside n (drop n m)))
 
 -- a word that stands at a place
-word-sort : (k : items.Sort) → same_sort word k ≡ true → k ≡ word
-word-sort separator h = absurd (false≢true h)
-word-sort word h = refl
-word-sort colon h = absurd (false≢true h)
-word-sort end h = absurd (false≢true h)
-word-sort text h = absurd (false≢true h)
-word-sort wrong h = absurd (false≢true h)
-
 some_word : (b : ℕ) (r : List ℕ) → 0 < word_length (b ∷ r) → sort_of b ≡ word
 unfolding word_length
 some_word b r h = go (same_sort word (sort_of b)) refl h
   where
     go : (w : Bool) → same_sort word (sort_of b) ≡ w → 0 < cond w (suc (word_length r)) 0 → sort_of b ≡ word
-    go true e k = word-sort (sort_of b) e
+    go true e k = same-sort word (sort_of b) e
     go false e k = absurd (omega arith)
 
 no_word : 0 < word_length [] → ⊥
@@ -145,7 +138,7 @@ other-leads : (s : List ℕ) (p : ℕ) (js : List Item) → (get_or s p 10 ≡ 3
 unfolding linked
 other-leads s p [] h = refl
 other-leads s p (i ∷ js) h =
-    item-leads s p i js (λ e. let z : i.at ≡ p = equal i.at p e in ne_eqb 39 (byte_at s i.at) (λ y. h (rw z at (sym y))))
+    item-leads s p i js (λ e. let z : i.at ≡ p = eqb-true i.at p e in ne_eqb 39 (byte_at s i.at) (λ y. h (rw z at (sym y))))
 
 -- what is found at an apostrophe is a text
 found-text : (s m : List ℕ) (p : ℕ) (r : List ℕ) → leads p (elements_of s (items_then m (found_in p (39 ∷ r)))) ≡ false
@@ -164,7 +157,7 @@ module _ (s m : List ℕ) (copy : m ≡ marked s) where
   copied p = rw copy (later p new_reader 0 s)
 
   pub same_length : length m ≡ length s
-  same_length = ap length copy ∙ length_marked new_reader 0 s
+  same_length = ap length copy ∙ marked-length new_reader 0 s
 
   words_same : (p : ℕ) → word_length (drop p m) ≡ word_length (drop p s)
   words_same p = let c = copied p in rw c.is (word-marked c.reader c.place (drop p s))
@@ -184,7 +177,7 @@ module _ (s m : List ℕ) (copy : m ≡ marked s) where
     where
       inside : (b : Bool) → p < length s → eqb (get_or s p 0) 39 ≡ b → leads p (elements_of s (read outside p (drop p m))) ≡ false
       inside true l e =
-          let q = equal (get_or s p 0) 39 e in
+          let q = eqb-true (get_or s p 0) 39 e in
           let own : get_or (drop p m) 0 0 ≡ get_or (drop p s) 0 0 = byte-copied (copied p) (λ y. h l q (sym (get_d-here m p 0) ∙ y)) in
           let byte : get_or m p 0 ≡ 39 = sym (get_d-here m p 0) ∙ own ∙ get_d-here s p 0 ∙ q in
           text-leads s m p (drop (p + 1) m) (drop_here m p (omega (arith, same_length)) ∙ ap (λ (b : ℕ). b ∷ drop (p + 1) m) byte)
@@ -290,11 +283,11 @@ module _ {s m : List ℕ} {n : ℕ} {t : Token} (l : Lent s m n) (k : TokenAt m 
         rw (word-shape.0, word_typed s m l.copy t.at t.next word-shape.1, w)
         (simp (length-take, length-drop) (omega (arith, y.own, y.behind, y.most, same_length s m l.copy)))
 
-    pub word_next : (b : ℕ) → b ≡ get_or s t.at 10 → JoinedEnd s m t.next 0 → NextElement s n (Some (plain_element Sort.Word b t.next))
+    pub word_next : (b : ℕ) → b ≡ get_or s t.at 10 → JoinsNone s m t.next → NextElement s n (Some (plain_element Sort.Word b t.next))
     unfolding link element_of
     word_next b f j =
         let y = k.stands in
-        let o : is_joined (end_of (element_of s (item_of m t))) from_next ≡ false = rw word-ends (not-joined s m l.copy t.next (j.none refl)) in
+        let o : is_joined (end_of (element_of s (item_of m t))) from_next ≡ false = rw word-ends (not-joined s m l.copy t.next j) in
         let q : is word (item_of m t) ≡ true = rw w refl in
         known
         (record {
@@ -305,7 +298,7 @@ module _ {s m : List ℕ} {n : ℕ} {t : Token} (l : Lent s m n) (k : TokenAt m 
         })
 
     -- a word and the parameter that is joined to it
-    module _ {e : ℕ} (j : JoinedEnd s m t.next e) (z : e ≡ 0 → ⊥) where
+    module _ {e : ℕ} (j : JoinsUpTo s m t.next e) where
       abbrev p : ℕ
       p = t.next
 
@@ -313,7 +306,7 @@ module _ {s m : List ℕ} {n : ℕ} {t : Token} (l : Lent s m n) (k : TokenAt m 
       joined_element b = record { sort = Sort.Word; byte = b; at = t.at; end = p; next = e; joined = Some e }
 
       bytes-there : (get_or (drop p s) 0 0 ≡ 39) × (get_or (drop p m) 0 0 ≡ 42)
-      bytes-there = (get_d-here s p 0 ∙ (j.joins z).0, get_d-here m p 0 ∙ (j.joins z).1)
+      bytes-there = (get_d-here s p 0 ∙ j.joins.0, get_d-here m p 0 ∙ j.joins.1)
 
       there : Joined (drop p m) (drop p s)
       there = joined-here (copied s m l.copy p) bytes-there.0 bytes-there.1
@@ -325,7 +318,7 @@ module _ {s m : List ℕ} {n : ℕ} {t : Token} (l : Lent s m n) (k : TokenAt m 
       long = let h : 0 < word_length (drop (p + 1) s) = rw (one_on s) at there.long in omega (arith, words_same s m l.copy (p + 1))
 
       ends : e ≡ p + 1 + word_length (drop (p + 1) s)
-      ends = omega (arith, j.is z, words_same s m l.copy (p + 1))
+      ends = omega (arith, j.is, words_same s m l.copy (p + 1))
 
       plain-there : get_or m e 0 ≡ get_or s e 0
       plain-there =
@@ -338,12 +331,12 @@ module _ {s m : List ℕ} {n : ℕ} {t : Token} (l : Lent s m n) (k : TokenAt m 
 
       read-parameter : read outside (p + 1) (drop (p + 1) m) ≡ parameter_item ∷ read outside e (drop e m)
       read-parameter =
-          let k₁ : p + 1 + word_length (drop (p + 1) m) ≡ e = sym (j.is z) in
+          let k₁ : p + 1 + word_length (drop (p + 1) m) ≡ e = sym j.is in
           read_word (p + 1) (drop (p + 1) m) long ∙ rw (drop-drop, k₁) refl
 
       read-joined : read outside p (drop p m) ≡ a_mark wrong p ∷ (parameter_item ∷ read outside e (drop e m))
       read-joined =
-          let h : drop p m ≡ 42 ∷ drop (p + 1) m = drop_here m p (omega (arith, j.within z, same_length s m l.copy)) ∙ ap (λ (b : ℕ). b ∷ drop (p + 1) m) (j.joins z).1 in
+          let h : drop p m ≡ 42 ∷ drop (p + 1) m = drop_here m p (omega (arith, j.within, same_length s m l.copy)) ∙ ap (λ (b : ℕ). b ∷ drop (p + 1) m) j.joins.1 in
           ap (read outside p) h ∙ read-star p (drop (p + 1) m) ∙ ap (λ (is : List Item). a_mark wrong p ∷ is) read-parameter
 
       abbrev parameter_element : Element
@@ -354,7 +347,7 @@ module _ {s m : List ℕ} {n : ℕ} {t : Token} (l : Lent s m n) (k : TokenAt m 
 
       parameter-is : element_of s parameter_item ≡ parameter_element
       unfolding element_of
-      parameter-is = rw (word_typed s m l.copy (p + 1) e (j.is z)) refl
+      parameter-is = rw (word_typed s m l.copy (p + 1) e j.is) refl
 
       parameter-ends : end_of parameter_element ≡ e
       parameter-ends = simp (length-take, length-drop) (omega (arith, ends, j.most, same_length s m l.copy))
@@ -382,7 +375,7 @@ module _ {s m : List ℕ} {n : ℕ} {t : Token} (l : Lent s m n) (k : TokenAt m 
       joined_next b f =
           let y = k.stands in
           let q : is word (item_of m t) ≡ true = rw w refl in
-          let near : eqb 39 (byte_at s p) ≡ true = eq-eqb 39 (byte_at s p) (sym (sym (any-default s p (j.within z)) ∙ (j.joins z).0)) in
+          let near : eqb 39 (byte_at s p) ≡ true = eq-eqb 39 (byte_at s p) (sym (sym (any-default s p j.within) ∙ j.joins.0)) in
           let v : Element = element_of s (item_of m t) in
           let three = joined-three v apostrophe parameter_element (elements_from s e) q near (sym word-ends) refl (ap (λ (i : ℕ). i + 1) (sym word-ends)) refl in
           let size = same_length s m l.copy in
@@ -405,7 +398,7 @@ module _ {s m : List ℕ} {n : ℕ} {t : Token} (l : Lent s m n) (k : TokenAt m 
                 ∙ ap (λ (u : Element). record { at = u.at; sort = u.sort; byte = u.byte; typed = u.typed; joined = part s (p + 1) e ∷ [] } ∷ elements_from s e) (word_is b f);
           })
 
-    pub word-next : (b : ℕ) → b ≡ get_or s t.at 10 → (o : Option ℕ) → JoinedEnd s m t.next (unwrap_or o 0) → IfSome o (λ r. 0 < r)
+    pub word-next : (b : ℕ) → b ≡ get_or s t.at 10 → (o : Option ℕ) → JoinedEnd s m t.next o
         → NextElement s n (Some (record { sort = Sort.Word; byte = b; at = t.at; end = t.next; next = unwrap_or o t.next; joined = o }))
-    word-next b f None j h = word_next b f j
-    word-next b f (Some e) j h = joined_next j (λ z. omega arith) b f
+    word-next b f None j = word_next b f j
+    word-next b f (Some e) j = joined_next j b f

@@ -5,18 +5,15 @@ use mathlib.Core.List.{List, [], ◌∷◌}
 use Prim.Native.Nat.{ℕ, zero, suc, ◌+◌, ◌<◌}
 use native.Mathlib.Omega.{arith}
 use lib.Dec.{eqb}
-use lib.ListN.{length, get_or, take, drop}
+use lib.ListN.{get_or, take, drop}
+use borrow.Author.Tests.{eqb-true}
+use Rattle.std.proofs.lemmas.Bool.{and_parts}
 use Rattle.language.specs.Program.{identifier}
 use Rattle.lists.specs.Lists.{any, bytes_equal}
 use Rattle.syntax.specs.Items.{sort_of, same_sort}
 use Rattle.syntax.specs.Items.Sort.{word}
 use Rattle.syntax.specs.Scan.{word_length}
 use Rattle.macros.specs.Marks.{Reader, parameters_in, word_in, joins, reader_after, marked_from}
-use Rattle.macros.proofs.PlainLaws.{equal}
-
-pub both_true : (a b : Bool) → (a && b) ≡ true → (a ≡ true) × (b ≡ true)
-both_true true b h = (refl, h)
-both_true false b h = absurd (false≢true h)
 
 -- a joining apostrophe is one, is not in a joined word, and has a word behind it
 record Joining (st : Reader) (b : ℕ) (r : List ℕ) : Type 0 where
@@ -29,15 +26,10 @@ unfolding joins
 joining st b r h =
     let next = take (word_length r) r in
     let name = identifier (word_in st.mode) in
-    let one = (both_true (eqb b 39 && name && not st.joined && identifier next) (any (bytes_equal next) (parameters_in st.part)) h).0 in
-    let two = both_true (eqb b 39 && name && not st.joined) (identifier next) one in
-    let three = both_true (eqb b 39 && name) (not st.joined) two.0 in
-    record { byte = equal b 39 (both_true (eqb b 39) name three.0).0; free = three.1; next = two.1 }
-
-pub length_marked : (st : Reader) (n : ℕ) (r : List ℕ) → length (marked_from st n r) ≡ length r
-unfolding marked_from
-length_marked st n [] = refl
-length_marked st n (b ∷ r) = ap suc (length_marked (reader_after st n b r) (n + 1) r)
+    let one = (and_parts (eqb b 39 && name && not st.joined && identifier next) (any (bytes_equal next) (parameters_in st.part)) h).0 in
+    let two = and_parts (eqb b 39 && name && not st.joined) (identifier next) one in
+    let three = and_parts (eqb b 39 && name) (not st.joined) two.0 in
+    record { byte = eqb-true b 39 (and_parts (eqb b 39) name three.0).0; free = three.1; next = two.1 }
 
 -- words stand in both
 quote-length : (b : ℕ) (r : List ℕ) → b ≡ 39 → word_length (b ∷ r) ≡ 0

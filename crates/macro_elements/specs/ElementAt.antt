@@ -1,5 +1,5 @@
 -- Elements as the code tells them, with places of the text s in place of bytes; and what its functions promise.
-use Rattle.std.specs.Prelude.{Option, Some, None, IfSome, ◌≡◌, Bool, false, List, [], ◌∷◌, map, ℕ, ◌+◌, ◌≤◌, ◌<◌, length, get_or, take, drop}
+use Rattle.std.specs.Prelude.{Option, Some, None, IfSome, MatchOption, ◌≡◌, Bool, false, List, [], ◌∷◌, map, ℕ, ◌+◌, ◌≤◌, ◌<◌, length, get_or, take, drop}
 use Rattle.language.specs.Limits as limit
 use Rattle.lexer.specs.Tokens.{part}
 use Rattle.scanner.specs.declared.Sort.{Sort}
@@ -49,12 +49,18 @@ pub record Held (s : List ℕ) (t : Element) : Type 0 where
   pub joined_ends : IfSome t.joined (λ b. (t.end + 1 ≤ b) × (b ≤ t.next))
   pub most : t.next ≤ length s
 
-pub record JoinedEnd (s m : List ℕ) (e r : ℕ) : Type 0 where
-  pub none : r ≡ 0 → (e < length s) → get_or s e 0 ≡ 39 → get_or m e 0 ≡ 42 → ⊥
-  pub within : (r ≡ 0 → ⊥) → e < length s
-  pub joins : (r ≡ 0 → ⊥) → (get_or s e 0 ≡ 39) × (get_or m e 0 ≡ 42)
-  pub is : (r ≡ 0 → ⊥) → r ≡ e + 1 + word_length (drop (e + 1) m)
+-- a parameter that is joined behind the apostrophe at place e ends at r; and none is joined there
+pub record JoinsUpTo (s m : List ℕ) (e r : ℕ) : Type 0 where
+  pub within : e < length s
+  pub joins : (get_or s e 0 ≡ 39) × (get_or m e 0 ≡ 42)
+  pub is : r ≡ e + 1 + word_length (drop (e + 1) m)
   pub most : r ≤ length m
+
+abbrev pub JoinsNone : List ℕ → List ℕ → ℕ → Type 0
+JoinsNone s m e = (e < length s) → get_or s e 0 ≡ 39 → get_or m e 0 ≡ 42 → ⊥
+
+abbrev pub JoinedEnd : List ℕ → List ℕ → ℕ → Option ℕ → Type 0
+JoinedEnd s m e r = MatchOption r (JoinsNone s m e) (λ b. JoinsUpTo s m e b)
 
 pub record TextEnd (s : List ℕ) (at r : ℕ) : Type 0 where
   pub from : at < r

@@ -1,7 +1,7 @@
 // From a place in a text to the element that stands there and the place behind it.
 #![tactic(auto)]
 
-ghost use Rattle.std.specs.Prelude.{◌≡◌, Bool, List, ℕ, Some, ◌<◌, length, unwrap_or, IfSome};
+ghost use Rattle.std.specs.Prelude.{◌≡◌, Bool, List, ℕ, Some, ◌<◌, length};
 ghost use Rattle.characters.specs.Characters.{is_digit};
 ghost use Rattle.language.specs.Values.{unsigned, numeral};
 ghost use Rattle.lexer.specs.Tokens.{part};
@@ -47,8 +47,7 @@ impl Element {
 // The place behind the parameter that an apostrophe at `end` joins.
 fn joined_end(source: &Source, end: usize) -> Option<usize>
     requires { Lent source.now.text.now source.now.marked.now end }
-    ensures joins { JoinedEnd source.now.text.now source.now.marked.now end (unwrap_or result 0) }
-    ensures some { IfSome result (λ r. 0 < r) }
+    ensures { JoinedEnd source.now.text.now source.now.marked.now end result }
 {
     let Source { text, marked } = *source;
     if end < text.len() && text[end] == b'\'' && marked[end] == b'*' {

@@ -1,10 +1,11 @@
 -- What a call writes, by its macro: at fault, too deep, skipped, or entered.
 use Rattle.std.specs.Option.{is_none, unwrap_or}
-use Rattle.std.specs.Prelude.{Option, Some, None, ◌≡◌, Bool, true, false, cond, not, ◌||◌, ℕ, zero, suc, ◌+◌, ◌-◌, ◌≤◌, ◌<◌, T, eqb, ltb, length, get_or, take, drop}
+use Rattle.std.specs.Prelude.{Option, Some, None, ◌≡◌, Bool, true, false, cond, ◌||◌, ℕ, zero, suc, ◌+◌, ◌-◌, ◌≤◌, ◌<◌, T, eqb, ltb, length, get_or, take, drop}
 use Rattle.std.proofs.Math.Path.{refl}
 use Rattle.std.proofs.Common.{sym, ap, ◌∙◌, true≢false, arith, le-leb, le-ltb, ltb-true}
-use Rattle.std.proofs.lemmas.Bool.{false≢true, lt-leb}
+use Rattle.std.proofs.lemmas.Bool.{false≢true, lt-leb, not-false}
 use mathlib.Core.List.{List, [], ◌∷◌, map, append-nil}
+use mathlib.Core.Bool.{or-false, or-true}
 use Rattle.language.specs.Limits as limit
 use Rattle.layout.specs.Cells.{tab}
 use Rattle.lists.specs.Lists.{filled, keep, bytes_equal}
@@ -60,19 +61,6 @@ module _ (ms : List Macro) (enter : List (List ℕ) → List Piece → Writing) 
   unfolding entered faults_of
   right-writes ns m e f = rw (e, f)
 
--- of 65 alone
-pub uneven-alone : (c : Call) (m : Macro) → places_of 64 (argument_faults c m) ≡ []
-unfolding argument_faults
-uneven-alone c m = go (ltb (length c.args) (length m.params)) (take 1 (drop (length m.params) c.arg_places))
-  where
-    none : (ps : List ℕ) → places_of 64 (map (fault 65) ps) ≡ []
-    none [] = refl
-    none (p ∷ ps) = none ps
-
-    go : (b : Bool) (ps : List ℕ) → places_of 64 (cond b (fault 65 c.name_at ∷ []) (map (fault 65) ps)) ≡ []
-    go true ps = refl
-    go false ps = none ps
-
 pub no-uneven : (c : Call) (m : Macro) → places_of 65 (argument_faults c m) ≡ [] → argument_faults c m ≡ []
 unfolding argument_faults
 no-uneven c m h = go (ltb (length c.args) (length m.params)) (take 1 (drop (length m.params) c.arg_places)) h
@@ -91,11 +79,7 @@ some-uneven (f ∷ fs) p e = refl
 module _ (v r : Written) (o : List ℕ) (l : size_of v ≤ length o) (count : size_of r ≡ size_of v) where
   module _ (over : is_over r ≡ is_over v) where
     over-same : is_over r ≡ (is_over v || ltb (length o) (size_of v + 0))
-    over-same = over ∙ sym (ap (λ b. (is_over v) || b) (le-ltb (length o) (size_of v + 0) (omega arith)) ∙ last (is_over v))
-      where
-        last : (a : Bool) → (a || false) ≡ a
-        last true = refl
-        last false = refl
+    over-same = over ∙ sym (ap (λ b. (is_over v) || b) (le-ltb (length o) (size_of v + 0) (omega arith)) ∙ or-false (is_over v))
 
     pub wrote-faults : (fs : List Fault) → r.unknown ≡ lower v.unknown (fault_of (places_of 64 fs)) → r.uneven ≡ lower v.uneven (fault_of (places_of 65 fs))
         → Wrote (at_fault fs) v r o o
@@ -121,15 +105,11 @@ wrote-deep v r o e f g =
     record {
       unknown = f ∙ lower-none-right v.unknown;
       uneven = g ∙ lower-none-right v.uneven;
-      over = e ∙ sym (last (is_over v));
+      over = e ∙ sym (or-true (is_over v));
       size = refl;
       within = λ z. absurd (true≢false (sym e ∙ z));
       most = omega (arith, over-size r e);
     }
-  where
-    last : (a : Bool) → (a || true) ≡ true
-    last true = refl
-    last false = refl
 
 -- Levels
 
@@ -154,11 +134,7 @@ module _ (s c f : List ℕ) (n : ℕ) (quiet loose : List ℕ) (h : Heights s c 
 
   pub fixed-writes : l < levels → l < get_or loose k 0 → (expand (macros_in s c f n) l env (body_in s c (get_or f k 0))).faults ≡ []
   fixed-writes m e =
-      fixed-faults (macros_in s c f n) l env (body_in s c (get_or f k 0)) (is_T _ (un_not (fixed (macros_in s c f n) l (body_in s c (get_or f k 0))) (sym (h.loose_is k l listed m) ∙ lt-leb (get_or loose k 0) l e)))
-    where
-      un_not : (b : Bool) → not b ≡ false → b ≡ true
-      un_not true z = refl
-      un_not false z = absurd (true≢false z)
+      fixed-faults (macros_in s c f n) l env (body_in s c (get_or f k 0)) (is_T _ (not-false (fixed (macros_in s c f n) l (body_in s c (get_or f k 0))) (sym (h.loose_is k l listed m) ∙ lt-leb (get_or loose k 0) l e)))
 
 -- a name that has no room
 pub long-unknown : (s c f : List ℕ) (n : ℕ) (w o : List ℕ) → ShortNames s c f n → limit.item < length o → ltb (length o) (0 + length w) ≡ true

@@ -117,7 +117,8 @@ pub record Fits (s c f : List ℕ) (n : ℕ) (left : ℕ) (slots : List Slot) (v
   pub remembers : Remembers s c f n slots v
 
 abbrev pub FitsList : Macros → ℕ → List Slot → Written → List ℕ → Type 0
-FitsList l left slots v o = Fits l.listed.coded.text.now l.listed.coded.code.now l.listed.firsts.now (length l.listed.firsts.now) left slots v o
+FitsList l left slots v o =
+    Fits l.hinted.listed.coded.text.now l.hinted.listed.coded.code.now l.hinted.listed.firsts.now (length l.hinted.listed.firsts.now) left slots v o
 
 pub record Expands (s c f : List ℕ) (n : ℕ) (before after : Memory) (left m : ℕ) (v r : Written) (o p : List ℕ) : Type 0 where
   pub wrote : Wrote (expand (macros_in s c f n) left (arguments_at s c before.calls left) (body_in s c m)) v r o p

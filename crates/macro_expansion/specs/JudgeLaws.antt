@@ -1,14 +1,15 @@
 -- A call by what is found of it.
-use Rattle.std.specs.Prelude.{Some, None, ◌≡◌, refl, Bool, true, ◌&&◌, List, [], ◌∷◌, map, ℕ, zero, suc, ◌+◌, ◌-◌, ◌≤◌, ◌<◌, eqb, leb, length, get_or}
+use Rattle.std.specs.Prelude.{Some, None, ◌≡◌, refl, true, ◌&&◌, List, [], ◌∷◌, map, ℕ, zero, suc, ◌+◌, ◌-◌, ◌≤◌, ◌<◌, eqb, leb, length, get_or}
 use Rattle.std.proofs.Common.{sym, ap, ◌∙◌, true≢false, arith, leb-true}
 use Rattle.std.proofs.Math.Bool.{false}
 use Rattle.std.proofs.lemmas.Option.{none-some, same_Some}
-use Rattle.std.proofs.lemmas.Bool.{false≢true}
+use Rattle.std.proofs.lemmas.Bool.{false≢true, and_parts}
 use Rattle.macros.specs.Expansion.{fault, places_of, called_by, argument_faults, Writing, just, too_deep, filled_in, entered, piece_writes, expand, levels}
 use Rattle.macros.specs.Pieces.Piece.{called}
 use Rattle.macro_code.specs.Code.{high, given_in, call_in, change_in, body_in, macro_in, macros_in}
 use Rattle.macro_code.specs.Known.{Only}
 use Rattle.macro_code.specs.Places as place
+use Rattle.macro_calls.specs.FaultLaws.{only-uneven}
 use Rattle.statements.specs.Faults.{lower}
 use Rattle.statements.specs.FaultLaws.{no-fault}
 use Rattle.statements.specs.StatementAt.{fault_of}
@@ -24,7 +25,7 @@ use Rattle.macro_values.specs.Wrote.{is_over, size_of, Wrote}
 use Rattle.macro_expansion.specs.declared.Step.{Step}
 use Rattle.macro_expansion.specs.Expanding.{inner, is_at, arguments_at, change_writes, Judged}
 use Rattle.macro_expansion.specs.Known.{Known}
-use Rattle.macro_expansion.specs.CallLaws.{unknown-writes, faulty-writes, right-writes, uneven-alone, no-uneven, some-uneven, wrote-faults, wrote-deep, inner-deep, inner-expands, quiet-writes, fixed-writes}
+use Rattle.macro_expansion.specs.CallLaws.{unknown-writes, faulty-writes, right-writes, no-uneven, some-uneven, wrote-faults, wrote-deep, inner-deep, inner-expands, quiet-writes, fixed-writes}
 use Rattle.macro_expansion.specs.WalkLaws.{walk-one}
 
 pub not-zero : (l : ℕ) → (l ≡ 0 → ⊥) → 1 ≤ l
@@ -38,14 +39,6 @@ at_some (Some p) e = (p, refl)
 at_none : (f : told.Fault) → is_at f ≡ false → f ≡ None
 at_none None e = refl
 at_none (Some p) e = absurd (true≢false e)
-
-both_left : (a b : Bool) → (a && b) ≡ true → a ≡ true
-both_left true b e = refl
-both_left false b e = absurd (false≢true e)
-
-both_right : (a b : Bool) → (a && b) ≡ true → b ≡ true
-both_right true b e = e
-both_right false b e = absurd (false≢true e)
 
 module _ (s c f : List ℕ) (n : ℕ) (calls : List ℕ) (left i : ℕ) (v : Written) where
   -- a call that is passed
@@ -95,7 +88,7 @@ module _ (s c f : List ℕ) (n : ℕ) (calls : List ℕ) (left i : ℕ) (v : Wri
           found (some-uneven fs a.0 (sym counts ∙ a.1)))
           r z
           (λ o l. rw e (wrote-faults v u o l x.0 x.1 fs
-          (x.2 ∙ lower-none-right v.unknown ∙ ap (λ ps. lower v.unknown (fault_of ps)) (sym (uneven-alone (call_in s c i) (macro_in s c m))))
+          (x.2 ∙ lower-none-right v.unknown ∙ ap (λ ps. lower v.unknown (fault_of ps)) (sym (only-uneven (call_in s c i) (macro_in s c m))))
           (x.3 ∙ ap (lower v.uneven) counts)))
 
       module _ (fine : is_at g ≡ false) where
@@ -133,10 +126,10 @@ module _ (s c f : List ℕ) (n : ℕ) (calls : List ℕ) (left i : ℕ) (v : Wri
           pub judge-settled : ((is_over v) && leb left (get_or loose k 0)) ≡ true → (r : Step) → r.state ≡ v → r.call ≡ None → Judged s c f n calls left i v r
           judge-settled y r e z =
               let w = expand (macros_in s c f n) (left - 1) given (body_in s c (get_or f k 0)) in
-              let x : left ≤ get_or loose k 0 = leb-true left (get_or loose k 0) (both_right (is_over v) (leb left (get_or loose k 0)) y) in
+              let x : left ≤ get_or loose k 0 = leb-true left (get_or loose k 0) (and_parts (is_over v) (leb left (get_or loose k 0)) y).1 in
               let j = below in
               judged-stay w entering r z
-              (λ o l. rw e (wrote-over w v o l (both_left (is_over v) (leb left (get_or loose k 0)) y)
+              (λ o l. rw e (wrote-over w v o l (and_parts (is_over v) (leb left (get_or loose k 0)) y).0
               (fixed-writes s c f n quiet loose known.heights k (left - 1) only.listed given below (omega arith))))
 
           -- it is remembered

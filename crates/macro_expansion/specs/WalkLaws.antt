@@ -1,8 +1,10 @@
 -- Writings one behind the other, and the arguments within the same calls.
-use Rattle.std.specs.Prelude.{◌≡◌, refl, Bool, true, false, ◌||◌, ℕ, zero, suc, get_or, take}
+use Rattle.std.specs.Prelude.{◌≡◌, refl, Bool, false, ◌||◌, ℕ, zero, suc, get_or, take}
 use Rattle.std.proofs.Math.Path.{sym, ap}
 use Rattle.std.proofs.Common.{◌∙◌, arith, get_or-take, take-take}
 use mathlib.Core.List.{List, [], ◌∷◌, ◌++◌, map, append_assoc, append-nil}
+use Rattle.std.proofs.Math.Bool.{or_assoc, or-false}
+use mathlib.Core.Bool.{or_assoc, or-false}
 use Rattle.macros.specs.Expansion.{Fault, Writing, just, followed_by, filled_in, piece_writes, walk, expand}
 use Rattle.macros.specs.Macros.{Macro}
 use Rattle.macros.specs.Pieces.{Piece}
@@ -15,14 +17,6 @@ writing b f d = record { bytes = b; faults = f; deep = d }
 
 same-writing : (b b' : List ℕ) (f f' : List Fault) (d d' : Bool) → b ≡ b' → f ≡ f' → d ≡ d' → writing b f d ≡ writing b' f' d'
 same-writing b b' f f' d d' x y z = λ i. writing (x i) (y i) (z i)
-
-or_assoc : (a b c : Bool) → ((a || b) || c) ≡ (a || (b || c))
-or_assoc true b c = refl
-or_assoc false b c = refl
-
-or-false : (a : Bool) → (a || false) ≡ a
-or-false true = refl
-or-false false = refl
 
 pub followed-assoc : (a b c : Writing) → followed_by (followed_by a b) c ≡ followed_by a (followed_by b c)
 unfolding followed_by writing

@@ -58,22 +58,27 @@ pub struct Paused<'a> {
 // The macro of a call's name within the nested calls, which is written into the row `name`. A name that has no room is no macro's.
 fn find_written(list: &Macros, around: &Around, cell: usize, name: &mut [u8]) -> Option<usize>
     requires { (cell < reach) × (limit.item < length name.old) × (length name.old < half) }
-    ensures { Finds list.now.listed.coded.text.now list.now.listed.coded.code.now list.now.listed.firsts.now (length list.now.listed.firsts.now) (filled_in (arguments_in around.now.coded.text.now around.now.coded.code.now around.now.calls.now around.now.depth) (given_in around.now.coded.text.now around.now.coded.code.now (cell + name_cell))) result }
+    ensures { Finds list.now.hinted.listed.coded.text.now list.now.hinted.listed.coded.code.now list.now.hinted.listed.firsts.now (length list.now.hinted.listed.firsts.now) (filled_in (arguments_in around.now.coded.text.now around.now.coded.code.now around.now.calls.now around.now.depth) (given_in around.now.coded.text.now around.now.coded.code.now (cell + name_cell))) result }
 {
     let written = around.write_given(cell + CodePlaces::NAME, name, Written::nothing());
     let n = written.count?;
-    macro_calls::find_macro(&list.listed, &name[..n])
+    macro_calls::find_macro(&list.hinted.listed, &name[..n])
 }
 
 // The macro of a call's name within the nested calls.
 fn called_macro(list: &Macros, memory: &Memory, at: Level) -> Option<usize>
     requires { (at.cell < reach) × (at.left ≤ levels) }
-    ensures { Finds list.now.listed.coded.text.now list.now.listed.coded.code.now list.now.listed.firsts.now (length list.now.listed.firsts.now) (filled_in (arguments_at list.now.listed.coded.text.now list.now.listed.coded.code.now memory.now.calls at.left) (given_in list.now.listed.coded.text.now list.now.listed.coded.code.now (at.cell + name_cell))) result }
+    ensures { Finds list.now.hinted.listed.coded.text.now list.now.hinted.listed.coded.code.now list.now.hinted.listed.firsts.now (length list.now.hinted.listed.firsts.now) (filled_in (arguments_at list.now.hinted.listed.coded.text.now list.now.hinted.listed.coded.code.now memory.now.calls at.left) (given_in list.now.hinted.listed.coded.text.now list.now.hinted.listed.coded.code.now (at.cell + name_cell))) result }
 {
-    if let Given::Typed = list.listed.coded.given_at(at.cell + CodePlaces::NAME) {
-        return macro_calls::find_target(&list.listed, list.singles, list.hints, at.cell);
+    if let Given::Typed = list
+        .hinted
+        .listed
+        .coded
+        .given_at(at.cell + CodePlaces::NAME)
+    {
+        return list.hinted.find_target(at.cell);
     }
-    let around = memory.around(&list.listed.coded, at.left);
+    let around = memory.around(&list.hinted.listed.coded, at.left);
     find_written(list, &around, at.cell, &mut [0u8; NAME_ROOM])
 }
 
@@ -95,27 +100,28 @@ fn is_settled(list: &Macros, k: usize, left: usize, v: Written) -> bool
 }
 
 // Whether a call is remembered as one that changes nothing. It is looked up only if the macro number `k` meets a call by a parameter.
+// A no is always right: the call is entered then.
 fn is_done(list: &Macros, memory: &Memory, k: usize, at: Entered) -> bool
     requires { (at.cell < reach) × (1 ≤ at.left) × (at.left ≤ levels) × (at.body < half) }
-    ensures { result ≡ true → Found list.now.listed.coded.text.now list.now.listed.coded.code.now memory.now.slots memory.now.calls at.left at.cell at.body }
+    ensures { result ≡ true → Found list.now.hinted.listed.coded.text.now list.now.hinted.listed.coded.code.now memory.now.slots memory.now.calls at.left at.cell at.body }
 {
-    list.loose_height(k) < at.left && memory.has(&list.listed.coded, at)
+    list.loose_height(k) < at.left && memory.has(&list.hinted.listed.coded, at)
 }
 
 // Passes a call, unless it is to be entered: "each called macro in the list once? 64. Are there as many arguments as parameters? 65."
 fn meet_call(list: &Macros, memory: &Memory, at: Level, v: Written) -> Step
-    requires { (at.cell < reach) × (at.left ≤ levels) × ((change_in list.now.listed.coded.text.now list.now.listed.coded.code.now at.cell).pieces ≡ called (call_in list.now.listed.coded.text.now list.now.listed.coded.code.now at.cell) ∷ []) × Remembers list.now.listed.coded.text.now list.now.listed.coded.code.now list.now.listed.firsts.now (length list.now.listed.firsts.now) memory.now.slots v }
-    ensures { Judged list.now.listed.coded.text.now list.now.listed.coded.code.now list.now.listed.firsts.now (length list.now.listed.firsts.now) memory.now.calls at.left at.cell v result }
+    requires { (at.cell < reach) × (at.left ≤ levels) × ((change_in list.now.hinted.listed.coded.text.now list.now.hinted.listed.coded.code.now at.cell).pieces ≡ called (call_in list.now.hinted.listed.coded.text.now list.now.hinted.listed.coded.code.now at.cell) ∷ []) × Remembers list.now.hinted.listed.coded.text.now list.now.hinted.listed.coded.code.now list.now.hinted.listed.firsts.now (length list.now.hinted.listed.firsts.now) memory.now.slots v }
+    ensures { Judged list.now.hinted.listed.coded.text.now list.now.hinted.listed.coded.code.now list.now.hinted.listed.firsts.now (length list.now.hinted.listed.firsts.now) memory.now.calls at.left at.cell v result }
 {
     let Some(k) = called_macro(list, memory, at) else {
-        let place = list.listed.coded.high(at.cell + CodePlaces::NAME);
+        let place = list.hinted.listed.coded.high(at.cell + CodePlaces::NAME);
         return stay(Written {
             unknown: lower(v.unknown, Some(place)),
             ..v
         });
     };
-    let body = list.listed.first_cell(k);
-    let uneven = macro_calls::count_fault(&list.listed.coded, at.cell, body);
+    let body = list.hinted.listed.first_cell(k);
+    let uneven = macro_calls::count_fault(&list.hinted.listed.coded, at.cell, body);
     if uneven.is_some() {
         return stay(Written {
             uneven: lower(v.uneven, uneven),
@@ -148,11 +154,11 @@ fn meet_call(list: &Macros, memory: &Memory, at: Level, v: Written) -> Step
 // Passes a change, unless it is a call that is to be entered.
 fn meet(list: &Macros, memory: &Memory, out: &mut [u8], at: Level, v: Written) -> Step
     requires { (at.cell < reach) × FitsList list.now at.left memory.now.slots v out.old }
-    ensures { Met list.now.listed.coded.text.now list.now.listed.coded.code.now list.now.listed.firsts.now (length list.now.listed.firsts.now) memory.now.calls at.left at.cell v result out.old out.new }
+    ensures { Met list.now.hinted.listed.coded.text.now list.now.hinted.listed.coded.code.now list.now.hinted.listed.firsts.now (length list.now.hinted.listed.firsts.now) memory.now.calls at.left at.cell v result out.old out.new }
 {
-    match list.listed.coded.change_at(at.cell) {
+    match list.hinted.listed.coded.change_at(at.cell) {
         Change::Value(k) => {
-            let around = memory.around(&list.listed.coded, at.left);
+            let around = memory.around(&list.hinted.listed.coded, at.left);
             stay(around.write_value(k, out, v))
         }
         Change::Call(_) => meet_call(list, memory, at, v),
@@ -162,10 +168,10 @@ fn meet(list: &Macros, memory: &Memory, out: &mut [u8], at: Level, v: Written) -
 
 // Writes the rest of a body up to the next call that is to be entered.
 fn run<'a>(list: &Macros, memory: &Memory, out: &mut [u8], rest: Rest<'a>, v: Written) -> Paused<'a>
-    requires { Near list.now.listed.coded.code.now rest × FitsList list.now rest.left memory.now.slots v out.old }
-    ensures { Ran list.now.listed.coded.text.now list.now.listed.coded.code.now list.now.listed.firsts.now (length list.now.listed.firsts.now) memory.now.calls rest.entry.left rest.entry.stop rest.entry.changes.left (rest_writes list.now.listed.coded.text.now list.now.listed.coded.code.now list.now.listed.firsts.now (length list.now.listed.firsts.now) memory.now.calls rest.entry.left rest.entry.place rest.entry.stop rest.entry.changes.cell rest.entry.changes.left) v result out.old out.new }
+    requires { Near list.now.hinted.listed.coded.code.now rest × FitsList list.now rest.left memory.now.slots v out.old }
+    ensures { Ran list.now.hinted.listed.coded.text.now list.now.hinted.listed.coded.code.now list.now.hinted.listed.firsts.now (length list.now.hinted.listed.firsts.now) memory.now.calls rest.entry.left rest.entry.stop rest.entry.changes.left (rest_writes list.now.hinted.listed.coded.text.now list.now.hinted.listed.coded.code.now list.now.hinted.listed.firsts.now (length list.now.hinted.listed.firsts.now) memory.now.calls rest.entry.left rest.entry.place rest.entry.stop rest.entry.changes.cell rest.entry.changes.left) v result out.old out.new }
 {
-    let coded = &list.listed.coded;
+    let coded = &list.hinted.listed.coded;
     let left = rest.left;
     let mut place = rest.place;
     let mut changes = rest.changes;
@@ -237,9 +243,9 @@ fn is_steady(v: Written, r: Written) -> bool
 // Writes a body: recursive expansion; the levels left, 16 at first, fall at each call.
 fn expand_body(list: &Macros, memory: &mut Memory, out: &mut [u8], at: Level, v: Written) -> Written
     requires { (at.cell < half) × (at.left < levels) × FitsList list.now at.left memory.old.slots v out.old }
-    ensures { Expands list.now.listed.coded.text.now list.now.listed.coded.code.now list.now.listed.firsts.now (length list.now.listed.firsts.now) memory.old memory.new at.left at.cell v result out.old out.new }
+    ensures { Expands list.now.hinted.listed.coded.text.now list.now.hinted.listed.coded.code.now list.now.hinted.listed.firsts.now (length list.now.hinted.listed.firsts.now) memory.old memory.new at.left at.cell v result out.old out.new }
 {
-    let mut paused = run(list, memory, out, whole(&list.listed.coded, at), v);
+    let mut paused = run(list, memory, out, whole(&list.hinted.listed.coded, at), v);
     while let Some(pause) = paused.call {
         keep_call(memory, LEVELS - at.left, pause.cell);
         let inner = Level {
@@ -251,7 +257,7 @@ fn expand_body(list: &Macros, memory: &mut Memory, out: &mut [u8], at: Level, v:
             list,
             memory,
             out,
-            behind(&list.listed.coded, at, pause),
+            behind(&list.hinted.listed.coded, at, pause),
             written,
         );
     }
@@ -259,7 +265,7 @@ fn expand_body(list: &Macros, memory: &mut Memory, out: &mut [u8], at: Level, v:
     if !is_steady(v, last) {
         return last;
     }
-    memory.remember(&list.listed.coded, at);
+    memory.remember(&list.hinted.listed.coded, at);
     last
 }
 
@@ -272,7 +278,7 @@ pub fn write_change(
     v: Written,
 ) -> Written
     requires { (at.cell < reach) × FitsList list.now at.left memory.old.slots v out.old }
-    ensures { Wrote (change_writes list.now.listed.coded.text.now list.now.listed.coded.code.now list.now.listed.firsts.now (length list.now.listed.firsts.now) memory.old.calls at.left at.cell) v result out.old out.new × Remembers list.now.listed.coded.text.now list.now.listed.coded.code.now list.now.listed.firsts.now (length list.now.listed.firsts.now) memory.new.slots result }
+    ensures { Wrote (change_writes list.now.hinted.listed.coded.text.now list.now.hinted.listed.coded.code.now list.now.hinted.listed.firsts.now (length list.now.hinted.listed.firsts.now) memory.old.calls at.left at.cell) v result out.old out.new × Remembers list.now.hinted.listed.coded.text.now list.now.hinted.listed.coded.code.now list.now.hinted.listed.firsts.now (length list.now.hinted.listed.firsts.now) memory.new.slots result }
 {
     let step = meet(list, memory, out, at, v);
     let Some(body) = step.call else {

@@ -4,17 +4,15 @@
 ghost use Rattle.std.specs.Prelude.{◌≡◌, get_or, length};
 ghost use Rattle.macro_expansion.specs.Known.{Known};
 
-use macro_calls::Listed;
+use macro_calls::Hinted;
 
-// A list of macros that was read, with the hints for calls; and of each macro its two heights, and whether it is the only one of its name.
+// A list of macros that was read, with the hints for calls; and of each macro its two heights.
 #[derive(Clone, Copy, Debug, PartialEq, Eq)]
 pub struct Macros<'a> {
-    pub listed: Listed<'a>,
-    pub hints: &'a [u16],
+    pub hinted: Hinted<'a>,
     pub quiet: &'a [u8],
     pub loose: &'a [u8],
-    pub singles: &'a [u8],
-    ghost known: { Known listed.coded.text.now listed.coded.code.now listed.firsts.now (length listed.firsts.now) quiet.now loose.now singles.now },
+    ghost known: { Known hinted.listed.coded.text.now hinted.listed.coded.code.now hinted.listed.firsts.now (length hinted.listed.firsts.now) quiet.now loose.now hinted.singles.now },
 }
 
 impl<'a> Macros<'a> {

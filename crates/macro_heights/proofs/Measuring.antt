@@ -2,13 +2,15 @@
 use mathlib.Core.Path.{◌≡◌, refl, sym, ap, ◌∙◌}
 use mathlib.Core.Bool.{Bool, true, false, cond, not, ◌&&◌, and-true, and-false, and_assoc}
 use mathlib.Core.List.{List, [], ◌∷◌, ◌++◌}
-use Prim.Native.Nat.{ℕ, suc, min, max, ◌+◌, ◌-◌, ◌≤◌, ◌<◌}
+use Prim.Native.Nat.{ℕ, suc, min, max, ◌+◌, ◌-◌, ◌<◌}
 use native.Mathlib.Decide.{dec_lt}
 use native.Mathlib.Numerals.{add-one}
 use native.Mathlib.Omega.{arith}
 use borrow.Author.Tests.{eq-eqb, ne_eqb, lt-ltb, le-ltb, le-leb, lt-leb}
 use lib.Dec.{leb, ltb}
 use lib.ListN.{get_or, take, drop}
+use Rattle.std.proofs.lemmas.List.Folds.{list_all-append}
+use Rattle.std.specs.Prelude.{Option, Some, None}
 use Rattle.lists.specs.Lists.{all, filled}
 use Rattle.macros.specs.Expansion.{levels}
 use Rattle.macros.specs.Macros.{Macro}
@@ -18,9 +20,9 @@ use Rattle.macros.specs.Silence.{right_call, silent_piece, fixed_piece}
 use Rattle.macro_code.specs.ChangeLaws.{changes-turn, changes-done}
 use Rattle.macro_code.specs.Changes.{StartsAt, Gives}
 use Rattle.macro_code.specs.declared.changes.Changes.{Changes}
-use Rattle.macro_code.specs.Code.{high, low, call_in, change_in, changes_in, body_in, macros_in}
+use Rattle.macro_code.specs.Code.{high, low, is_call, call_in, change_in, changes_in, body_in, macros_in}
 use Rattle.macro_code.specs.Places.{span_cell, kind_cell}
-use Rattle.macro_heights.specs.Levels.{Aims, Greater, Lesser, Measures, Quiet, Loose, quiet_at, loose_at}
+use Rattle.macro_heights.specs.Levels.{RightBy, NeverRight, Aims, CallHeight, Greater, Lesser, Measures, Quiet, Loose, quiet_at, loose_at}
 
 -- the greater and the lesser of two heights
 max-greater : {a b r : ℕ} → r ≡ max a b → Greater a b r
@@ -73,31 +75,29 @@ module _ (at : ℕ → ℕ → Bool) (test : (List Piece → Bool) → Piece →
   Fits l passes = (k : ℕ) → k < n → passes (body_in s c (get_or firsts k 0)) ≡ at (suc (get_or row k 0)) l
 
   module _ (calls : (passes : List Piece → Bool) (d : Call) → test passes (called d) ≡ right_call (macros_in s c firsts n) passes d d.name) (i : ℕ) {kind : ℕ}
-      (e : kind ≡ high c (i + kind_cell)) (f : kind ≡ 1) {k : ℕ} (aims : Aims s c firsts n i k) where
-    call_passes : (passes : List Piece → Bool) → all (test passes) (change_in s c i).pieces ≡ ((ltb k n && passes (body_in s c (get_or firsts k 0))) && true)
+      (e : kind ≡ high c (i + kind_cell)) (f : kind ≡ 1) where
+    abbrev passes_right : (List Piece → Bool) → Bool
+    passes_right passes = right_call (macros_in s c firsts n) passes (call_in s c i) (call_in s c i).name
+
+    call_passes : (passes : List Piece → Bool) → all (test passes) (change_in s c i).pieces ≡ passes_right passes
     call_passes passes =
-        ap (all (test passes)) (call-pieces s c i e f)
-        ∙ ap (λ b. b && true) (calls passes (call_in s c i) ∙ aims.is (eq-eqb (high c (i + kind_cell)) 1 (sym e ∙ f)) passes)
+        ap (all (test passes)) (call-pieces s c i e f) ∙ ap (λ b. b && true) (calls passes (call_in s c i)) ∙ and-true (passes_right passes)
 
-    pub call-measured : k < n → {h : ℕ} → h ≡ get_or row k 0 → Measures at test s c firsts n row (change_in s c i).pieces (h + 1)
-    call-measured l {h} g =
-        record {
-          is = λ m u passes fits.
-              sym (call_passes passes ∙ and-true (ltb k n && passes (body_in s c (get_or firsts k 0))) ∙ ap (λ b. b && passes (body_in s c (get_or firsts k 0))) (lt-ltb k n l)
-              ∙ fits k l ∙ ap (λ (x : ℕ). at (suc x) m) (sym g) ∙ rw add-one refl);
-        }
+    called_there : is_call c i ≡ true
+    called_there = eq-eqb (high c (i + kind_cell)) 1 (sym e ∙ f)
 
-    pub call-refused : n ≤ k → {r : ℕ} → ((l : ℕ) → l < levels → at r l ≡ false) → Measures at test s c firsts n row (change_in s c i).pieces r
-    call-refused l g =
-        record { is = λ m u passes fits. g m u ∙ sym (call_passes passes ∙ ap (λ b. (b && passes (body_in s c (get_or firsts k 0))) && true) (le-ltb k n l)) }
+    call-measured : {k : ℕ} → RightBy s c firsts n i k → Measures at test s c firsts n row (change_in s c i).pieces (get_or row k 0 + 1)
+    call-measured {k} right =
+        record { is = λ m u passes fits. sym (call_passes passes ∙ right.is called_there passes ∙ fits k right.listed ∙ rw add-one refl) }
+
+    call-refused : NeverRight s c firsts n i → {r : ℕ} → ((l : ℕ) → l < levels → at r l ≡ false) → Measures at test s c firsts n row (change_in s c i).pieces r
+    call-refused never g = record { is = λ m u passes fits. g m u ∙ sym (call_passes passes ∙ never.is called_there passes) }
 
     -- as the function on calls tells it
-    pub call-height : {refused r : ℕ} → ((l : ℕ) → l < levels → at refused l ≡ false) → r ≡ cond (ltb k n) (get_or row k 0 + 1) refused → Measures at test s c firsts n row (change_in s c i).pieces r
-    call-height {refused} g h = rw h (go (dec_lt k n))
-      where
-        go : Dec (k < n) → Measures at test s c firsts n row (change_in s c i).pieces (cond (ltb k n) (get_or row k 0 + 1) refused)
-        go (yes u) = rw (lt-ltb k n u) (call-measured u refl)
-        go (no u) = rw (le-ltb k n (omega arith)) (call-refused (omega arith) g)
+    pub call-height : {refused r : ℕ} → ((l : ℕ) → l < levels → at refused l ≡ false) → (o : Option ℕ) → Aims s c firsts n i o → CallHeight row refused o r
+        → Measures at test s c firsts n row (change_in s c i).pieces r
+    call-height g None aims h = rw h (call-refused aims g)
+    call-height g (Some k) aims h = rw h (call-measured aims)
 
   -- what is left of the body at the cell q: from a place on, with the changes that are left; acc is the height of what was passed
   pub record Rest (q place : ℕ) (left : Changes) (acc : ℕ) : Type 0 where
@@ -113,10 +113,6 @@ module _ (at : ℕ → ℕ → Bool) (test : (List Piece → Bool) → Piece →
     regrouped : (x y z w : Bool) → ((x && (y && z)) && w) ≡ (x && (y && (z && w)))
     regrouped x y z w = and_assoc x (y && z) w ∙ ap (λ b. x && b) (and_assoc y z w)
 
-    all_both : (g : Piece → Bool) (xs ys : List Piece) → all g (xs ++ ys) ≡ (all g xs && all g ys)
-    all_both g [] ys = refl
-    all_both g (x ∷ xs) ys = ap (λ b. g x && b) (all_both g xs ys) ∙ sym (and_assoc (g x) (all g xs) (all g ys))
-
     pub rest-on : {i : ℕ} {after : Changes} → Gives left i after → {acc₁ : ℕ}
         → ((l : ℕ) → l < levels → (passes : List Piece → Bool) → Fits l passes
         → at acc₁ l ≡ (at acc l && (test passes (kept place (take (high c i - place) (drop place s))) && all (test passes) (change_in s c i).pieces)))
@@ -129,7 +125,7 @@ module _ (at : ℕ → ℕ → Bool) (test : (List Piece → Bool) → Piece →
               let rest : List Piece = pieces_from s place₁ (low c (q + span_cell)) (changes_in s c after.cell after.left) in
               ap (λ b. b && all (test passes) rest) (g l u passes fits)
               ∙ regrouped (at acc l) (test passes (kept place (take (high c i - place) (drop place s)))) (all (test passes) (change_in s c i).pieces) (all (test passes) rest)
-              ∙ ap (λ b. at acc l && (test passes (kept place (take (high c i - place) (drop place s))) && b)) (sym (all_both (test passes) (change_in s c i).pieces rest))
+              ∙ ap (λ b. at acc l && (test passes (kept place (take (high c i - place) (drop place s))) && b)) (sym (list_all-append (test passes) (change_in s c i).pieces rest))
               ∙ next l passes (changes_in s c after.cell after.left)
               ∙ ap (λ ds. at acc l && all (test passes) (pieces_from s place (low c (q + span_cell)) ds)) (sym (changes-turn s c left p.code gives))
               ∙ p.is l u passes fits;
@@ -173,14 +169,14 @@ module _ (s c firsts : List ℕ) (n : ℕ) (row : List ℕ) (i : ℕ) {kind : �
       go passes (yes u) = ap (all (fixed_piece ms passes)) (no_pieces s c i e (λ z. omega (arith, z)) g)
       go passes (no u) = ap (all (fixed_piece ms passes)) (value-pieces s c i e (omega arith))
 
-  module _ (f : kind ≡ 1) {k : ℕ} (aims : Aims s c firsts n i k) where
-    pub quiet-call : {r : ℕ} → r ≡ cond (ltb k n) (get_or row k 0 + 1) 16 → Quiet s c firsts n row (change_in s c i).pieces r
+  module _ (f : kind ≡ 1) (o : Option ℕ) (aims : Aims s c firsts n i o) where
+    pub quiet-call : {r : ℕ} → CallHeight row 16 o r → Quiet s c firsts n row (change_in s c i).pieces r
     unfolding silent_piece
-    quiet-call g = call-height quiet_at (silent_piece ms) s c firsts n row (λ passes d. refl) i e f aims (λ m u. lt-leb 16 m u) g
+    quiet-call g = call-height quiet_at (silent_piece ms) s c firsts n row (λ passes d. refl) i e f (λ m u. lt-leb 16 m u) o aims g
 
-    pub loose-call : {r : ℕ} → r ≡ cond (ltb k n) (get_or row k 0 + 1) 0 → Loose s c firsts n row (change_in s c i).pieces r
+    pub loose-call : {r : ℕ} → CallHeight row 0 o r → Loose s c firsts n row (change_in s c i).pieces r
     unfolding fixed_piece
-    loose-call g = call-height loose_at (fixed_piece ms) s c firsts n row (λ passes d. refl) i e f aims (λ m u. le-ltb m 0 (omega arith)) g
+    loose-call g = call-height loose_at (fixed_piece ms) s c firsts n row (λ passes d. refl) i e f (λ m u. le-ltb m 0 (omega arith)) o aims g
 
 -- and of a body, change by change
 module _ (s c firsts : List ℕ) (n : ℕ) (row : List ℕ) where

@@ -6,7 +6,7 @@ use Prim.Native.Nat.{ℕ, zero, suc, ◌+◌, ◌-◌, ◌≤◌, ◌<◌}
 use native.Mathlib.Decide.{dec_lt}
 use native.Mathlib.Omega.{arith}
 use borrow.Author.Tests.{lt-ltb, le-ltb, le-leb, lt-leb, leb-true, leb-false}
-use lib.Dec.{leb, ltb}
+use lib.Dec.{leb, ltb, leb-suc-suc}
 use lib.ListN.{length, get_or, set, length-set}
 use lib.Seq.{get_or-set_same, get_or-set_other}
 use Rattle.macros.specs.Expansion.{levels}
@@ -104,13 +104,6 @@ above x m = go (dec_lt m x)
     go (yes u) = rw (lt-ltb m x u, lt-leb x m u) refl
     go (no u) = rw (le-ltb m x (omega arith), le-leb x m (omega arith)) refl
 
-next-leb : (x m : ℕ) → leb (suc x) (suc m) ≡ leb x m
-next-leb x m = go (dec_lt m x)
-  where
-    go : Dec (m < x) → leb (suc x) (suc m) ≡ leb x m
-    go (yes u) = rw (lt-leb x m u) (lt-leb (suc x) (suc m) (omega arith))
-    go (no u) = rw (le-leb x m (omega arith)) (le-leb (suc x) (suc m) (omega arith))
-
 module _ (s c firsts : List ℕ) (n : ℕ) where
   abbrev ms : List Macro
   ms = macros_in s c firsts n
@@ -121,13 +114,13 @@ module _ (s c firsts : List ℕ) (n : ℕ) where
   quiet-fits : (row : List ℕ) (l : ℕ) → Below (quiet_table s c firsts n) l row → (k : ℕ) → k < n → quiet_before ms l (body_in s c (get_or firsts k 0)) ≡ leb (suc (get_or row k 0)) l
   unfolding Below
   quiet-fits row zero p k u = sym (lt-leb (suc (get_or row k 0)) 0 (omega arith))
-  quiet-fits row (suc m) p k u = sym (next-leb (get_or row k 0) m ∙ p k m u (omega arith))
+  quiet-fits row (suc m) p k u = sym (leb-suc-suc (get_or row k 0) m ∙ p k m u (omega arith))
 
   loose-fits : (row : List ℕ) (l : ℕ) → Below (loose_table s c firsts n) l row → (k : ℕ) → k < n → loose_before ms l (body_in s c (get_or firsts k 0)) ≡ ltb l (suc (get_or row k 0))
   unfolding Below
   loose-fits row zero p k u = sym (lt-ltb 0 (suc (get_or row k 0)) (omega arith))
   loose-fits row (suc m) p k u =
-      sym (above (suc (get_or row k 0)) (suc m) ∙ ap not (next-leb (get_or row k 0) m ∙ p k m u (omega arith)) ∙ not-not (fixed ms m (body_in s c (get_or firsts k 0))))
+      sym (above (suc (get_or row k 0)) (suc m) ∙ ap not (leb-suc-suc (get_or row k 0) m ∙ p k m u (omega arith)) ∙ not-not (fixed ms m (body_in s c (get_or firsts k 0))))
 
   module _ (l : ℕ) {row : List ℕ} {j : ℕ} {q : ℕ} {height : ℕ} (h : l < levels) (e : q ≡ get_or firsts j 0) where
     pub quiet_found : Quiet s c firsts n row (body_in s c q) height → HeightAt (quiet_table s c firsts n) n l row j height

@@ -4,6 +4,7 @@ use mathlib.Core.Bool.{Bool, true, false, not}
 use mathlib.Core.List.{List, [], ◌∷◌}
 use Prim.Native.Nat.{ℕ, zero, suc}
 use lib.Dec.{T}
+use lib.Ieee.Bits.{is_true}
 use Rattle.lists.specs.Lists.{all}
 use Rattle.lists.specs.ListLaws.{T-left, T-right, T-both}
 use Rattle.macros.specs.Macros.{Macro}
@@ -35,11 +36,7 @@ fixed-lower ms (suc l) ps h = fixed-all-more ms (fixed ms (suc l)) (fixed ms l) 
 
 -- both tables rise
 pub quiet-rises : (ms : List Macro) (l : ℕ) (ps : List Piece) → silent ms l ps ≡ true → silent ms (suc l) ps ≡ true
-quiet-rises ms l ps e = go (silent ms (suc l) ps) (silent-higher ms l ps (subst T (sym e) tt))
-  where
-    go : (b : Bool) → T b → b ≡ true
-    go true h = refl
-    go false h = absurd h
+quiet-rises ms l ps e = is_true (silent ms (suc l) ps) (silent-higher ms l ps (subst T (sym e) tt))
 
 pub loose-rises : (ms : List Macro) (l : ℕ) (ps : List Piece) → not (fixed ms l ps) ≡ true → not (fixed ms (suc l) ps) ≡ true
 loose-rises ms l ps e = go (fixed ms (suc l) ps) (fixed ms l ps) (fixed-lower ms l ps) e

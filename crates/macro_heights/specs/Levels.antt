@@ -1,5 +1,5 @@
 -- The heights of macros in the cells c of a text s, level by level, and what the functions on them ask and promise.
-use Rattle.std.specs.Prelude.{◌≡◌, Bool, true, cond, not, ◌&&◌, List, ℕ, suc, ◌≤◌, ◌<◌, leb, ltb, length, get_or, set}
+use Rattle.std.specs.Prelude.{Option, MatchOption, ◌≡◌, Bool, true, false, cond, not, ◌&&◌, List, ℕ, suc, ◌+◌, ◌≤◌, ◌<◌, leb, ltb, length, get_or, set}
 use Rattle.lists.specs.Lists.{all}
 use Rattle.macros.specs.Expansion.{levels}
 use Rattle.macros.specs.Pieces.{Piece}
@@ -8,10 +8,22 @@ use Rattle.macro_code.specs.Code.{is_call, call_in, body_in, macros_in}
 use Rattle.macro_code.specs.Known.{Singles}
 use Rattle.macro_code.specs.Bounds.{near}
 
--- a call is right just where a macro has the number r, and its body passes
-pub record Aims (s c firsts : List ℕ) (n i r : ℕ) : Type 0 where
+-- a call is right just where the body of the macro number k passes; or it never is
+pub record RightBy (s c firsts : List ℕ) (n i k : ℕ) : Type 0 where
+  pub listed : k < n
   pub is : is_call c i ≡ true → (passes : List Piece → Bool)
-      → right_call (macros_in s c firsts n) passes (call_in s c i) (call_in s c i).name ≡ (ltb r n && passes (body_in s c (get_or firsts r 0)))
+      → right_call (macros_in s c firsts n) passes (call_in s c i) (call_in s c i).name ≡ passes (body_in s c (get_or firsts k 0))
+
+pub record NeverRight (s c firsts : List ℕ) (n i : ℕ) : Type 0 where
+  pub is : is_call c i ≡ true → (passes : List Piece → Bool) → right_call (macros_in s c firsts n) passes (call_in s c i) (call_in s c i).name ≡ false
+
+-- the macro that it is right by, if there is one
+abbrev pub Aims : List ℕ → List ℕ → List ℕ → ℕ → ℕ → Option ℕ → Type 0
+Aims s c firsts n i r = MatchOption r (NeverRight s c firsts n i) (λ k. RightBy s c firsts n i k)
+
+-- the height of a call: one more than its macro's in a row, or `refused`
+abbrev pub CallHeight : List ℕ → ℕ → Option ℕ → ℕ → Type 0
+CallHeight row refused o r = MatchOption o (r ≡ refused) (λ k. r ≡ get_or row k 0 + 1)
 
 pub record Greater (a b r : ℕ) : Type 0 where
   pub is : (l : ℕ) → leb r l ≡ (leb a l && leb b l)
@@ -73,7 +85,7 @@ pub record Settling (table : List ℕ → List ℕ → List ℕ → ℕ → ℕ 
   pub singles_are : Singles s c firsts n singles
   pub below : UpTo (table s c firsts n) n level row
 
-pub record Findable (s c firsts : List ℕ) (n : ℕ) (singles quiet loose : List ℕ) : Type 0 where
-  pub singles_are : Singles s c firsts n singles
+-- room for the heights of n macros
+pub record Findable (n : ℕ) (quiet loose : List ℕ) : Type 0 where
   pub quiet_room : n ≤ length quiet
   pub loose_room : n ≤ length loose

@@ -1,37 +1,27 @@
 // The heights of macros: with how many levels at least a body writes nothing, and with how many at least a call by a parameter is met.
 #![tactic(auto)]
 
-ghost use Rattle.std.specs.Prelude.{◌≡◌, ℕ, Bool, cond, ◌+◌, ◌-◌, ◌<◌, ltb, length, get_or, take, drop, unwrap_or, IfSome};
+ghost use Rattle.std.specs.Prelude.{◌≡◌, ℕ, Bool, cond, Option, ◌+◌, ◌-◌, ◌<◌, length, get_or, take, drop};
 ghost use Rattle.lists.specs.Lists.{filled};
 ghost use Rattle.macros.specs.Expansion.{levels};
 ghost use Rattle.macro_code.specs.Bounds.{near, far};
 ghost use Rattle.macro_code.specs.Code.{change_in, body_in};
-ghost use Rattle.macro_code.specs.Known.{Heights, Singles};
-ghost use Rattle.macro_heights.specs.Levels.{Aims, Quiet, Loose, Settled, UpTo, Rises, HeightAt, Findable};
+ghost use Rattle.macro_code.specs.Known.{Heights};
+ghost use Rattle.macro_heights.specs.Levels.{Aims, CallHeight, Quiet, Loose, Settled, UpTo, Rises, HeightAt, Findable};
 
-use macro_calls::{Listed, count_fault, find_target, is_typed_call};
+use macro_calls::{Hinted, count_fault, is_typed_call};
 use macro_code::{Change, CodePlaces, LEVELS};
-
-// A list of macros; whether each is the only one of its name, and hints for the calls.
-#[derive(Clone, Copy, Debug, PartialEq, Eq)]
-struct Hinted<'a> {
-    list: Listed<'a>,
-    singles: &'a [u8],
-    hints: &'a [u16],
-    ghost singles_are: { Singles list.coded.text.now list.coded.code.now list.firsts.now (length list.firsts.now) singles.now },
-}
 
 // The number of the macro of the call at `i`, where it is a call by a typed name at no fault.
 fn right_macro(macros: &Hinted, i: usize) -> Option<usize>
     requires { i < far }
-    ensures aims { Aims macros.now.list.coded.text.now macros.now.list.coded.code.now macros.now.list.firsts.now (length macros.now.list.firsts.now) i (unwrap_or result (length macros.now.list.firsts.now)) }
-    ensures listed { IfSome result (λ k. k < (length macros.now.list.firsts.now)) }
+    ensures { Aims macros.now.listed.coded.text.now macros.now.listed.coded.code.now macros.now.listed.firsts.now (length macros.now.listed.firsts.now) i result }
 {
-    let listed = &macros.list;
+    let listed = &macros.listed;
     if !is_typed_call(&listed.coded, i) {
         return None;
     }
-    let number = find_target(listed, macros.singles, macros.hints, i)?;
+    let number = macros.find_target(i)?;
     let uneven = count_fault(&listed.coded, i, listed.first_cell(number));
     uneven.is_none().then_some(number)
 }
@@ -49,7 +39,7 @@ fn gap_height(text: &[u8], place: usize, stop: usize) -> usize
 // The height of the call at `i`, by the heights so far: one more than its macro's, or `refused` where it is at fault.
 fn call_height(macros: &Hinted, row: &[u8], i: usize, refused: usize) -> usize
     requires { i < far }
-    ensures { (k : _) × Aims macros.now.list.coded.text.now macros.now.list.coded.code.now macros.now.list.firsts.now (length macros.now.list.firsts.now) i k × (result ≡ cond (ltb k (length macros.now.list.firsts.now)) (get_or row.now k 0 + 1) refused) }
+    ensures { (r : Option ℕ) × Aims macros.now.listed.coded.text.now macros.now.listed.coded.code.now macros.now.listed.firsts.now (length macros.now.listed.firsts.now) i r × CallHeight row.now refused r result }
 {
     right_macro(macros, i).map_or(refused, |k| {
         usize::from(row.get(k).copied().unwrap_or(0)) + 1
@@ -59,9 +49,9 @@ fn call_height(macros: &Hinted, row: &[u8], i: usize, refused: usize) -> usize
 // With how many levels at least a change writes nothing, by the heights so far.
 fn quiet_change(macros: &Hinted, quiet: &[u8], i: usize) -> usize
     requires { i < far }
-    ensures { Quiet macros.now.list.coded.text.now macros.now.list.coded.code.now macros.now.list.firsts.now (length macros.now.list.firsts.now) quiet.now (change_in macros.now.list.coded.text.now macros.now.list.coded.code.now i).pieces result }
+    ensures { Quiet macros.now.listed.coded.text.now macros.now.listed.coded.code.now macros.now.listed.firsts.now (length macros.now.listed.firsts.now) quiet.now (change_in macros.now.listed.coded.text.now macros.now.listed.coded.code.now i).pieces result }
 {
-    match macros.list.coded.change_at(i) {
+    match macros.listed.coded.change_at(i) {
         Change::Value(_) => LEVELS,
         Change::Call(_) => call_height(macros, quiet, i, LEVELS),
         Change::Nothing => 0,
@@ -71,21 +61,20 @@ fn quiet_change(macros: &Hinted, quiet: &[u8], i: usize) -> usize
 // With how many levels at least a change meets a call by a parameter or a fault.
 fn loose_change(macros: &Hinted, loose: &[u8], i: usize) -> usize
     requires { i < far }
-    ensures { Loose macros.now.list.coded.text.now macros.now.list.coded.code.now macros.now.list.firsts.now (length macros.now.list.firsts.now) loose.now (change_in macros.now.list.coded.text.now macros.now.list.coded.code.now i).pieces result }
+    ensures { Loose macros.now.listed.coded.text.now macros.now.listed.coded.code.now macros.now.listed.firsts.now (length macros.now.listed.firsts.now) loose.now (change_in macros.now.listed.coded.text.now macros.now.listed.coded.code.now i).pieces result }
 {
-    match macros.list.coded.change_at(i) {
+    match macros.listed.coded.change_at(i) {
         Change::Call(_) => call_height(macros, loose, i, 0),
-        Change::Value(_) => LEVELS,
-        Change::Nothing => LEVELS,
+        Change::Value(_) | Change::Nothing => LEVELS,
     }
 }
 
 // The same of a body.
 fn quiet_body(macros: &Hinted, quiet: &[u8], q: usize) -> usize
     requires { q < near }
-    ensures { Quiet macros.now.list.coded.text.now macros.now.list.coded.code.now macros.now.list.firsts.now (length macros.now.list.firsts.now) quiet.now (body_in macros.now.list.coded.text.now macros.now.list.coded.code.now q) result }
+    ensures { Quiet macros.now.listed.coded.text.now macros.now.listed.coded.code.now macros.now.listed.firsts.now (length macros.now.listed.firsts.now) quiet.now (body_in macros.now.listed.coded.text.now macros.now.listed.coded.code.now q) result }
 {
-    let coded = &macros.list.coded;
+    let coded = &macros.listed.coded;
     let mut place = coded.high(q + CodePlaces::SPAN);
     let mut height: usize = 0;
     for i in coded.changes(q) {
@@ -100,10 +89,10 @@ fn quiet_body(macros: &Hinted, quiet: &[u8], q: usize) -> usize
 // Apart from the other: bytes between changes do not count, and the least height does.
 fn loose_body(macros: &Hinted, loose: &[u8], q: usize) -> usize
     requires { q < near }
-    ensures { Loose macros.now.list.coded.text.now macros.now.list.coded.code.now macros.now.list.firsts.now (length macros.now.list.firsts.now) loose.now (body_in macros.now.list.coded.text.now macros.now.list.coded.code.now q) result }
+    ensures { Loose macros.now.listed.coded.text.now macros.now.listed.coded.code.now macros.now.listed.firsts.now (length macros.now.listed.firsts.now) loose.now (body_in macros.now.listed.coded.text.now macros.now.listed.coded.code.now q) result }
 {
     let mut height = LEVELS;
-    for i in macros.list.coded.changes(q) {
+    for i in macros.listed.coded.changes(q) {
         height = height.min(loose_change(macros, loose, i));
     }
     height
@@ -142,30 +131,20 @@ fn settle_level<F: Fn(&[u8], u16) -> usize>(
 
 // The heights of both kinds, in two rows of lent memory. A macro without a height has the number of levels, which is the greatest height and no mark
 // beside them: `min`, `max` and `<` go by it.
-pub fn find_heights(
-    list: &Listed,
-    singles: &[u8],
-    hints: &[u16],
-    quiet: &mut [u8],
-    loose: &mut [u8],
-)
-    requires { Findable list.now.coded.text.now list.now.coded.code.now list.now.firsts.now (length list.now.firsts.now) singles.now quiet.old loose.old }
-    ensures { Heights list.now.coded.text.now list.now.coded.code.now list.now.firsts.now (length list.now.firsts.now) quiet.new loose.new }
+pub fn find_heights(macros: &Hinted, quiet: &mut [u8], loose: &mut [u8])
+    requires { Findable (length macros.now.listed.firsts.now) quiet.old loose.old }
+    ensures { Heights macros.now.listed.coded.text.now macros.now.listed.coded.code.now macros.now.listed.firsts.now (length macros.now.listed.firsts.now) quiet.new loose.new }
 {
-    let macros = Hinted {
-        list: *list,
-        singles,
-        hints,
-    };
-    let count = list.firsts.len();
+    let firsts = macros.listed.firsts;
+    let count = firsts.len();
     quiet[..count].fill(LEVELS as u8);
     loose[..count].fill(LEVELS as u8);
     for level in 0..LEVELS {
-        settle_level(quiet, list.firsts, level, |row, first| {
-            quiet_body(&macros, row, usize::from(first))
+        settle_level(quiet, firsts, level, |row, first| {
+            quiet_body(macros, row, usize::from(first))
         });
-        settle_level(loose, list.firsts, level, |row, first| {
-            loose_body(&macros, row, usize::from(first))
+        settle_level(loose, firsts, level, |row, first| {
+            loose_body(macros, row, usize::from(first))
         });
     }
 }

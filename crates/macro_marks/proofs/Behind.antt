@@ -20,8 +20,9 @@ use Rattle.syntax.specs.Items.Mode.{outside, in_word, in_text}
 use Rattle.syntax.specs.Scan.{word_length, passes, Gap, gap_from, Found, text_found, found_here, found_in, found_after, item_at}
 use Rattle.syntax.specs.Scan.Gap.{clear, unclosed}
 use Rattle.syntax.specs.Scan.Found.{no_item, found}
+use Rattle.syntax.proofs.SortLaws.{same-sort}
 use Rattle.macro_marks.specs.Parts.{word_joins}
-use Rattle.macro_marks.proofs.Leading.{reader, Leads, leads-none, leads_one, leads-both, unjoined, no_word, Stops, GapLeads, gap_leads, word-sort, WordStops, word-stops, word_first, word-leads, joins_at, word_out, text-leads}
+use Rattle.macro_marks.proofs.Leading.{reader, Leads, leads-none, leads_one, leads-both, unjoined, no_word, Stops, GapLeads, gap_leads, WordStops, word-stops, word_first, word-leads, joins_at, word_out, text-leads}
 
 -- behind a word the reader is still in it
 abbrev pub behind : List ℕ → Part → Item → Reader
@@ -105,7 +106,7 @@ module _ {s : List ℕ} {n : ℕ} {t : Token} (k : TokenAt s n t) (l : n ≤ len
   passes_on z h = go (is word item) refl h (by-item z).0 (by-item z).1
     where
       passed-word : is word item ≡ true → passed_by p (chars_of s t ∷ []) ≡ item_passed p (byte_at s t.at) item
-      passed-word e = rw (word-sort item.sort e) refl
+      passed-word e = rw (same-sort word item.sort e) refl
 
       go : (b : Bool) → is word item ≡ b → (b && word_joins s (chars_of s t) (parameters_in p) t.next) ≡ false
           → Leads s (reader outside p false) n (cond b (reader (in_word t.at (chars_of s t)) p false) (reader outside (item_passed p (byte_at s t.at) item) false)) t.next

@@ -6,6 +6,7 @@ use Prim.Native.Nat.{ℕ, suc, ◌+◌, ◌≤◌}
 use lib.Dec.{eqb}
 use lib.ListN.{length, take, drop}
 use lib.Seq.{drop-drop}
+use Rattle.std.proofs.lemmas.Bool.{and_parts, eqb-true}
 use Rattle.language.specs.Program.{identifier}
 use Rattle.std.specs.Prelude.{is_some}
 use Rattle.lexer.specs.declared.Token.{Token}
@@ -13,24 +14,21 @@ use Rattle.lexer.specs.Tokens.{item_of, chars_of, TokenAt}
 use Rattle.lists.specs.Lists.{any, bytes_equal}
 use Rattle.macros.specs.Marks.{byte_at, Part, passed_by, part_after, Reader, parameters_in, joins, reader_after, marked_from}
 use Rattle.macros.specs.Marks.Part.{in_body}
-use Rattle.macros.proofs.PlainLaws.{equal, here}
+use Rattle.macros.proofs.PlainLaws.{here}
 use Rattle.syntax.specs.Items.{sort_of, same_sort, is, itself, items_at}
 use Rattle.syntax.specs.Items.Sort.{word}
 use Rattle.syntax.specs.Items.Mode.{outside, in_word}
 use Rattle.syntax.specs.Scan.{word_length}
+use Rattle.syntax.proofs.SortLaws.{same-sort}
 use Rattle.macro_marks.specs.Parts.{word_from, word_joins}
-use Rattle.macro_marks.proofs.Leading.{reader, Leads, leads-both, other_byte, is_joined, word-sort, longer, WordStops, word-stops, word_first, word-leads, joins_at, word_out}
+use Rattle.macro_marks.proofs.Leading.{reader, Leads, leads-both, other_byte, is_joined, longer, WordStops, word-stops, word_first, word-leads, joins_at, word_out}
 use Rattle.macro_marks.proofs.Behind.{joins-there, by-item}
-
-pub both : (a b : Bool) → (a && b) ≡ true → (a ≡ true) × (b ≡ true)
-both true b h = (refl, h)
-both false b h = absurd (false≢true h)
 
 quoted : (st : Reader) (b : ℕ) (r : List ℕ) → joins st b r ≡ true → b ≡ 39
 quoted st b r h = go (eqb b 39) refl
   where
     go : (t : Bool) → eqb b 39 ≡ t → b ≡ 39
-    go true e = equal b 39 e
+    go true e = eqb-true b 39 e
     go false e = absurd (false≢true (sym (other_byte st b r e) ∙ h))
 
 joined-none : (st : Reader) (r : List ℕ) → st.joined ≡ true → joins_at st r ≡ false
@@ -64,7 +62,7 @@ module _ (s : List ℕ) (ps : List (List ℕ)) where
       go : (t : Bool) → same_sort word (sort_of b) ≡ t → identifier (take (cond t (suc (word_length r)) 0) (b ∷ r)) ≡ true
           → Leads s (reader outside body true) m (reader (in_word m (take (cond t (suc (word_length r)) 0) (b ∷ r))) body true) (m + cond t (suc (word_length r)) 0)
       go true z k =
-          leads-both s (word_first s body true m b r e (word-sort (sort_of b) z))
+          leads-both s (word_first s body true m b r e (same-sort word (sort_of b) z))
           (rw (longer m (word_length r)) at (word-leads s body true m (b ∷ []) (m + 1) r (here m s b r e).1))
       go false z k = absurd (false≢true k)
 
@@ -94,8 +92,8 @@ module _ (s : List ℕ) (ps : List (List ℕ)) where
 
         rest : Leads s (reader outside body true) (e + 1) (reader outside body false) f
         rest =
-            let q = (both (eqb (byte_at s e) 39 && identifier (chars_of s t) && identifier (word_from s (e + 1))) (any (bytes_equal (word_from s (e + 1))) ps) h).0 in
-            joined-out (e + 1) (both (eqb (byte_at s e) 39 && identifier (chars_of s t)) (identifier (word_from s (e + 1))) q).1
+            let q = (and_parts (eqb (byte_at s e) 39 && identifier (chars_of s t) && identifier (word_from s (e + 1))) (any (bytes_equal (word_from s (e + 1))) ps) h).0 in
+            joined-out (e + 1) (and_parts (eqb (byte_at s e) 39 && identifier (chars_of s t)) (identifier (word_from s (e + 1))) q).1
 
         front : Leads s (reader outside body false) n st e
         front = rw w at (by-item k l body z).0

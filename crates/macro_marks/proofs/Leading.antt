@@ -1,21 +1,24 @@
 -- The reader of joining apostrophes from item to item: what it copies on its way, and where it stands then.
 use mathlib.Core.Path.{◌≡◌, refl, ap, sym, subst, ◌∙◌}
-use mathlib.Core.Bool.{Bool, true, false, cond, ◌&&◌, ◌||◌, and-true, and-false, true≢false, false≢true}
+use mathlib.Core.Bool.{Bool, true, false, cond, ◌&&◌, and-true, and-false, true≢false, false≢true}
 use mathlib.Core.List.{List, [], ◌∷◌, ◌++◌, append_assoc, append-nil}
 use Prim.Native.Nat.{ℕ, suc, ◌+◌}
 use native.Mathlib.Nat.{add-zero}
 use native.Mathlib.Omega.{arith}
 use lib.Dec.{eqb}
 use lib.ListN.{length, get_or, take, drop, length-append}
+use borrow.Author.Tests.{eqb-true}
+use Rattle.syntax.proofs.ItemLaws.{new_line}
 use Rattle.language.specs.Program.{identifier}
 use Rattle.macros.specs.Marks.{Part, passed_by, part_after, Reader, word_in, joins, reader_after, marked_from}
-use Rattle.macros.proofs.PlainLaws.{equal, here}
-use Rattle.syntax.specs.Items.{Sort, sort_of, same_sort, ends_text, takes_next, char_of, allows, Mode, opens, begins, itself, mode_after, items_at}
-use Rattle.syntax.specs.Items.Sort.{separator, word, colon, end, text, wrong}
+use Rattle.macros.proofs.PlainLaws.{here}
+use Rattle.syntax.specs.Items.{sort_of, same_sort, ends_text, takes_next, char_of, allows, Mode, opens, begins, itself, mode_after, items_at}
+use Rattle.syntax.specs.Items.Sort.{word}
 use Rattle.syntax.specs.Items.Stage.{first-star, inside, last-slash}
 use Rattle.syntax.specs.Items.Mode.{outside, in_word, in_comment, in_text}
 use Rattle.syntax.specs.Scan.{word_length, text_length, is_closed, passes, in_gap, Gap, gap_end, gap_from}
 use Rattle.syntax.specs.Scan.Gap.{clear, unclosed}
+use Rattle.syntax.proofs.ItemLaws.{between_items, passed}
 
 abbrev pub reader : Mode → Part → Bool → Reader
 reader m p j = record { mode = m; part = p; joined = j }
@@ -74,23 +77,8 @@ is_joined st b r h = rw (h, and-false (eqb b 39 && identifier (word_in st.mode))
 
 -- ---- gaps
 
-abbrev between : Mode → Bool
-between outside = true
-between (in_word at w) = false
-between (in_comment at k) = true
-between (in_text at star cs good) = false
-
-passed : (k : Sort) (n b next : ℕ) → passes k (opens b next) ≡ true → (itself k n b next ≡ []) × (between (begins k n b next) ≡ true)
-unfolding passes itself begins
-passed separator n b next h = (refl, refl)
-passed word n b next h = absurd (false≢true h)
-passed colon n b next h = absurd (false≢true h)
-passed end n b next h = absurd (false≢true h)
-passed text n b next h = absurd (false≢true h)
-passed wrong n b next h = (rw h refl, rw h refl)
-
-gap-byte : (m : Mode) (n b next : ℕ) → between m ≡ true → in_gap m b next ≡ true
-    → (items_at m n b next ≡ []) × (between (mode_after m n b next) ≡ true) × (word_in m ≡ [])
+gap-byte : (m : Mode) (n b next : ℕ) → between_items m ≡ true → in_gap m b next ≡ true
+    → (items_at m n b next ≡ []) × (between_items (mode_after m n b next) ≡ true) × (word_in m ≡ [])
 unfolding items_at mode_after in_gap word_in
 gap-byte outside n b next g h = let p = passed (sort_of b) n b next h in (p.0, p.1, refl)
 gap-byte (in_word at w) n b next g h = absurd (false≢true g)
@@ -113,7 +101,7 @@ module _ (s : List ℕ) (p : Part) where
   gap_more m l n (clear e) g h = (leads-both s g h.0, h.1)
   gap_more m l n (unclosed q) g h = λ st. leads-both s g (h st)
 
-  gap-one : (m : Mode) (n b : ℕ) (r : List ℕ) → drop n s ≡ b ∷ r → between m ≡ true → in_gap m b (get_or r 0 0) ≡ true
+  gap-one : (m : Mode) (n b : ℕ) (r : List ℕ) → drop n s ≡ b ∷ r → between_items m ≡ true → in_gap m b (get_or r 0 0) ≡ true
       → Leads s (reader m p false) n (reader (mode_after m n b (get_or r 0 0)) p false) (n + 1)
   unfolding part_after
   gap-one m n b r e g h =
@@ -121,7 +109,7 @@ module _ (s : List ℕ) (p : Part) where
       leads_one s (reader m p false) (reader (mode_after m n b (get_or r 0 0)) p false) n b r e
       (unjoined (reader m p false) n b r (no_word (reader m p false) b r k.2) ∙ rw k.0 refl)
 
-  pub gap_leads : (m : Mode) (n : ℕ) (r : List ℕ) → between m ≡ true → drop n s ≡ r → n + length r ≡ length s → GapLeads s p m n (gap_from m n r)
+  pub gap_leads : (m : Mode) (n : ℕ) (r : List ℕ) → between_items m ≡ true → drop n s ≡ r → n + length r ≡ length s → GapLeads s p m n (gap_from m n r)
   unfolding gap_from gap_end in_gap
   gap_leads outside n [] g e l = (leads-none s (reader outside p false) n, rw e tt)
   gap_leads (in_word at w) n [] g e l = absurd (false≢true g)
@@ -132,7 +120,7 @@ module _ (s : List ℕ) (p : Part) where
   gap_leads m n (b ∷ r) g e l =
       go (in_gap m b (get_or r 0 0)) refl (λ z. gap_leads (mode_after m n b (get_or r 0 0)) (n + 1) r z (here n s b r e).1 (omega arith))
     where
-      stays : (i : Mode) → between i ≡ true → in_gap i b (get_or r 0 0) ≡ false → Leads s (reader i p false) n (reader outside p false) n × Stops (drop n s)
+      stays : (i : Mode) → between_items i ≡ true → in_gap i b (get_or r 0 0) ≡ false → Leads s (reader i p false) n (reader outside p false) n × Stops (drop n s)
       stays outside z h = (leads-none s (reader outside p false) n, rw e h)
       stays (in_word at w) z h = absurd (false≢true z)
       stays (in_comment at k) z h = absurd (true≢false h)
@@ -141,7 +129,7 @@ module _ (s : List ℕ) (p : Part) where
       later : Gap
       later = gap_from (mode_after m n b (get_or r 0 0)) (n + 1) r
 
-      go : (t : Bool) → in_gap m b (get_or r 0 0) ≡ t → (between (mode_after m n b (get_or r 0 0)) ≡ true → GapLeads s p (mode_after m n b (get_or r 0 0)) (n + 1) later)
+      go : (t : Bool) → in_gap m b (get_or r 0 0) ≡ t → (between_items (mode_after m n b (get_or r 0 0)) ≡ true → GapLeads s p (mode_after m n b (get_or r 0 0)) (n + 1) later)
           → GapLeads s p m n (cond t later (clear n))
       go true h ih = gap_more m (mode_after m n b (get_or r 0 0)) n later (gap-one m n b r e g h) (ih (gap-byte m n b (get_or r 0 0) g h).1)
       go false h ih = stays m g h
@@ -153,16 +141,8 @@ unfolding sort_of
 word-unquoted b h = go (eqb b 39) refl
   where
     go : (t : Bool) → eqb b 39 ≡ t → t ≡ false
-    go true e = absurd (false≢true (rw (equal b 39 e) at h))
+    go true e = absurd (false≢true (rw (eqb-true b 39 e) at h))
     go false e = refl
-
-pub word-sort : (k : Sort) → same_sort word k ≡ true → k ≡ word
-word-sort separator h = absurd (false≢true h)
-word-sort word h = refl
-word-sort colon h = absurd (false≢true h)
-word-sort end h = absurd (false≢true h)
-word-sort text h = absurd (false≢true h)
-word-sort wrong h = absurd (false≢true h)
 
 pub longer : (n k : ℕ) → n + 1 + k ≡ n + suc k
 longer n k = omega arith
@@ -227,14 +207,6 @@ word_out s p j at w n (b ∷ r) e h f =
 text-place : (t : Bool) (n k : ℕ) → cond t (n + 1 + k + 1) (n + 1 + k) ≡ cond t (n + suc k + 1) (n + suc k)
 text-place true n k = omega arith
 text-place false n k = omega arith
-
-new_line : (star : Bool) (b : ℕ) → ends_text star b ≡ true → eqb b 39 ≡ false → b ≡ 10
-unfolding ends_text
-new_line star b e z = go (eqb b 10) refl (rw z at e)
-  where
-    go : (t : Bool) → eqb b 10 ≡ t → (t || false) ≡ true → b ≡ 10
-    go true f k = equal b 10 f
-    go false f k = absurd (false≢true k)
 
 module _ (s : List ℕ) (p : Part) (at : ℕ) where
   abbrev texted : Bool → List ℕ → Bool → Reader

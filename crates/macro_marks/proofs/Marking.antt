@@ -8,6 +8,7 @@ use native.Mathlib.Omega.{arith}
 use lib.Dec.{eqb}
 use lib.ListN.{length, drop, set, length-append, length-drop, length-set}
 use lib.Seq.{set_at}
+use Rattle.std.proofs.lemmas.Bool.{and_parts}
 use Rattle.language.specs.Program.{identifier}
 use Rattle.lexer.specs.declared.Token.{Token}
 use Rattle.lexer.specs.Tokens.{item_of, chars_of, TokenAt}
@@ -25,7 +26,7 @@ use Rattle.macro_marks.specs.declared.ListPart.TheVariants.{Before, First, AtLis
 use Rattle.macro_marks.specs.Parts.{part_behind, parameters, parameters_of, word_from, word_joins, joined, JoinableIn}
 use Rattle.macro_marks.proofs.Leading.{reader}
 use Rattle.macro_marks.proofs.Behind.{none-leads, passes_on}
-use Rattle.macro_marks.proofs.Joining.{both, Joined, joined-on}
+use Rattle.macro_marks.proofs.Joining.{Joined, joined-on}
 use Rattle.macro_marks.proofs.Parting.{Known, known-within, known-parameters, known_on}
 
 -- ---- the stars
@@ -130,7 +131,7 @@ module _ {s m : List ℕ} {c : ListPart} {n : ℕ} {t : Token} (u : Marking s m 
     crossed After q e h = absurd (false≢true (sym (nothing-joins s (chars_of s t) t.next (same_sort word (sort_in t.sort))) ∙ e))
     crossed (Header y) q e h = absurd (false≢true (sym (nothing-joins s (chars_of s t) t.next (same_sort word (sort_in t.sort))) ∙ e))
     crossed (Body y) q e h =
-        let parts = both (same_sort word (sort_in t.sort)) (word_joins s (chars_of s t) (parameters s y) t.next) e in
+        let parts = and_parts (same_sort word (sort_in t.sort)) (word_joins s (chars_of s t) (parameters s y) t.next) e in
         let j = joined-on s (parameters s y) k u.most z parts.0 parts.1 in
         let a = across y h.0 h.1 j in
         let same-part : Body y ≡ part_behind c t.sort (byte_at s t.at) t.next =

@@ -9,6 +9,7 @@ use native.Mathlib.Omega.{arith}
 use lib.Dec.{eqb}
 use lib.ListN.{take, drop}
 use borrow.Author.Tests.{eq-eqb}
+use Rattle.lists.specs.BoolLaws.{some-if}
 use Rattle.language.specs.Program.{identifier}
 use Rattle.lexer.specs.declared.Token.{Token}
 use Rattle.lexer.specs.Tokens.{part, word_of, chars_of}
@@ -27,10 +28,6 @@ part-word : {s : List ℕ} {n e : ℕ} → WordEnd s n e → part s n e ≡ word
 part-word {s} {n} {e} w =
     let q : e - n ≡ word_length (drop n s) = omega (arith, w.is) in
     ap (λ (k : ℕ). take k (drop n s)) q
-
-then-cond : (a : Bool) (e : ℕ) → then_some a e ≡ cond a (Some e) None
-then-cond true e = refl
-then-cond false e = refl
 
 module _ (s : List ℕ) (ps : List (List ℕ)) (t : Token) where
   -- what is joined stands behind the token
@@ -63,5 +60,5 @@ module _ (s : List ℕ) (ps : List (List ℕ)) (t : Token) where
 
       pub by-parameter : j ≡ true → {a : Bool} → a ≡ any (bytes_equal (part s (t.next + 1) e)) ps → then_some a e ≡ joined s ps t
       by-parameter y {a} x =
-          then-cond a e ∙ sym (tested-true (identifier (chars_of s t)) (identifier (word_from s (t.next + 1))) (any (bytes_equal (word_from s (t.next + 1))) ps)
+          some-if a e ∙ sym (tested-true (identifier (chars_of s t)) (identifier (word_from s (t.next + 1))) (any (bytes_equal (word_from s (t.next + 1))) ps)
           ∙ rw (own_name f ∙ n, sym (ap identifier (part-word v)) ∙ sym h ∙ y, sym (ap (λ (l : List ℕ). any (bytes_equal l) ps) (part-word v)) ∙ sym x, sym v.is) refl)

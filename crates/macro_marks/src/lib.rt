@@ -157,6 +157,7 @@ fn is_word(text: &[u8], t: Token, name: &[u8]) -> bool
 }
 
 // Whether a name is a parameter of the macro whose header begins at `header`.
+#[tactic(auto, using(crate::specs::ItemLaws::next_shorter))]
 fn is_parameter(text: &[u8], header: usize, name: &[u8]) -> bool
     requires { header ≤ length text.now }
     ensures { result ≡ any (bytes_equal name.now) (parameters text.now header) }
@@ -210,6 +211,7 @@ fn joined(text: &[u8], p: ListPart, t: Token) -> Option<usize>
 }
 
 // The text with a star for each joining apostrophe.
+#[tactic(auto, using(crate::specs::ItemLaws::next_shorter))]
 pub fn mark_joins(text: &[u8], out: &mut [u8])
     requires { length out.old ≡ length text.now }
     ensures { out.new ≡ marked text.now }

@@ -1,7 +1,7 @@
 // Calls that change nothing any more, remembered beside the cells of the nested calls.
 #![tactic(auto)]
 
-ghost use Rattle.std.specs.Prelude.{◌≡◌, true, List, ℕ, ◌+◌, ◌-◌, ◌≤◌, ◌<◌};
+ghost use Rattle.std.specs.Prelude.{◌≡◌, true, List, ℕ, ◌+◌, ◌-◌, ◌≤◌, ◌<◌, get_or};
 ghost use Rattle.macro_values.specs.declared.Written.{Written};
 ghost use Rattle.macro_code.specs.Bounds.{near, far};
 ghost use Rattle.macro_code.specs.Code.{given_in, arguments_in};
@@ -9,8 +9,8 @@ ghost use Rattle.macro_code.specs.Places.{half};
 ghost use Rattle.macros.specs.Expansion.{filled_in, levels};
 ghost use Rattle.macro_memory.specs.Memory.{reach, Lookable, Like, Alike, Found, Remembers, Stored};
 
-use macro_code::{CodePlaces, Coded, LEVELS};
-use macro_values::{Around, Written, argument_cell, cell_at};
+use macro_code::{CodePlaces, Coded, LEVELS, argument_cell};
+use macro_values::{Around, Written, cell_at};
 
 // How many calls are remembered at most.
 const SLOTS: usize = 128;
@@ -34,7 +34,8 @@ pub struct Slot {
 }
 
 // The cells of the nested calls, and the calls that are remembered; for each group which of its slots is taken next, and for each slot a number by
-// its macro, levels and arguments.
+// its macro, levels and arguments. These numbers stand apart from the slots, since a look goes over them alone in most cases: eight words in place of
+// slots of 80 bytes each.
 #[derive(Drop)]
 pub struct Memory {
     pub calls: [u32; LEVELS],
@@ -65,7 +66,8 @@ pub struct Entered {
     pub body: usize,
 }
 
-// Whether two arguments, the other one within other calls, stand for the same bytes. Those that have no room are taken for different ones.
+// Whether two arguments, the other one within other calls, stand for the same bytes. Those that have no room are taken for different ones: a no is
+// always right, here and in all that goes by this, since it costs time alone.
 fn same_given(here: &Around, others: &[u32], pair: Pair) -> bool
     requires { (pair.one < far) × (pair.other < far) }
     ensures { result ≡ true → filled_in (arguments_in here.now.coded.text.now here.now.coded.code.now here.now.calls.now here.now.depth) (given_in here.now.coded.text.now here.now.coded.code.now pair.one) ≡ filled_in (arguments_in here.now.coded.text.now here.now.coded.code.now others.now here.now.depth) (given_in here.now.coded.text.now here.now.coded.code.now pair.other) }
@@ -184,7 +186,7 @@ impl Memory {
         (first..first + GROUP).any(|k| self.prints[k] == print && self.slots[k].is_like(here, at))
     }
 
-    // Whether a call within the nested calls is remembered.
+    // Whether a call within the nested calls is remembered. A no is always right.
     pub fn has(&self, coded: &Coded, at: Entered) -> bool
         requires { (at.cell < reach) × (1 ≤ at.left) × (at.left ≤ levels) × (at.body < half) }
         ensures { result ≡ true → Found coded.now.text.now coded.now.code.now self.now.slots self.now.calls at.left at.cell at.body }
@@ -212,7 +214,7 @@ impl Memory {
     // The innermost of the nested calls, by the body of its macro.
     fn innermost(&self, body: Level) -> Entered
         requires { body.left < levels }
-        ensures { (result.cell < near) × (result.left ≡ body.left + 1) × (result.body ≡ body.cell) }
+        ensures { (result.cell ≡ get_or self.now.calls (levels - body.left - 1) 0) × (result.cell < near) × (result.left ≡ body.left + 1) × (result.body ≡ body.cell) }
     {
         Entered {
             cell: cell_at(&self.calls, LEVELS - body.left - 1),

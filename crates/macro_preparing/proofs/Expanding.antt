@@ -1,6 +1,6 @@
 -- The section written out, and the questions of a text with macros.
 use mathlib.Core.Path.{◌≡◌, refl, sym, ap, ◌∙◌}
-use mathlib.Core.Bool.{Bool, true, false, cond, ◌||◌}
+use mathlib.Core.Bool.{Bool, true, false, cond, or-false}
 use mathlib.Core.List.{List, [], ◌∷◌, ◌++◌, map}
 use Prim.Native.Nat.{ℕ, ◌+◌, ◌≤◌}
 use native.Mathlib.Omega.{arith}
@@ -9,6 +9,7 @@ use lib.ListN.{length, take, drop}
 use Rattle.std.proofs.Math.Seq.{take-append_seam}
 use Rattle.std.proofs.lemmas.List.{length-map, length-take-le}
 use borrow.Author.Tests.{le-ltb}
+use Rattle.std.proofs.lemmas.Bool.{or_from}
 use Rattle.language.specs.Limits as limit
 use Rattle.lists.specs.Lists.{each}
 use Rattle.macros.proofs.AcceptedLaws.{yes-at}
@@ -43,13 +44,6 @@ use Rattle.macro_preparing.specs.declared.Reading.{Reading}
 
 -- ---- a call that is too deep
 
-or-false : (b : Bool) → (b || false) ≡ b
-or-false true = refl
-or-false false = refl
-
-both_false : (a b : Bool) → a ≡ false → b ≡ false → (a || b) ≡ false
-both_false a b e f = rw (e, f)
-
 front-none : (xs ys : List ℕ) → xs ++ ys ≡ [] → xs ≡ []
 front-none [] ys h = refl
 front-none (x ∷ xs) ys h = let e : ◌≡◌ {A = ℕ} 0 1 = cc in absurd (omega arith)
@@ -77,7 +71,7 @@ module _ (ms : List Macro) where
   unfolding expand walk followed_by
   not-deep [] h = refl
   not-deep (p ∷ ps) h =
-      both_false (piece_writes ms (expand ms 15) [] p).deep (walk ms (expand ms 15) [] ps).deep
+      or_from (piece_writes ms (expand ms 15) [] p).deep (walk ms (expand ms 15) [] ps).deep
       (piece-deep p (front-none (deep_places ms p) (each (deep_places ms) ps) h)) (not-deep ps (back_none (deep_places ms p) (each (deep_places ms) ps) h))
 
 -- ---- a text with macros
@@ -135,7 +129,7 @@ module _ {s c f quiet loose alone : List ℕ} {r : Reading} (y : RowsRead s c f 
     not-over q =
         let l : length (expand (listed s) levels [] (section_of s)).bytes ≤ limit.text = rw (written-at-once s) at (bytes_fit s macros short (macros-asked ∙ q)) in
         wrote-there.over
-        ∙ both_false (expand (listed s) levels [] (section_of s)).deep (ltb (length o) (0 + length (expand (listed s) levels [] (section_of s)).bytes))
+        ∙ or_from (expand (listed s) levels [] (section_of s)).deep (ltb (length o) (0 + length (expand (listed s) levels [] (section_of s)).bytes))
         (none_deep q) (le-ltb (length o) (0 + length (expand (listed s) levels [] (section_of s)).bytes) (omega (arith, l, room)))
 
     module _ (v : told.Verdict) (e : verdict_of v ≡ then (decided 64 (lower r.listing.fault (lower r.typed.unknown w.state.unknown))) (then (decided 65 (lower r.typed.uneven w.state.uneven)) (decided 66 w.long))) where

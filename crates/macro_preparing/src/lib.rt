@@ -8,7 +8,7 @@ ghost use Rattle.macro_preparing.specs.Preparing.{Preparable, Prepares};
 ghost use Rattle.macro_preparing.specs.Rows.{Readable, RowsRead, Expands, Answered};
 
 use language::Machine;
-use macro_calls::{Faults, Listed, find_singles, typed_faults};
+use macro_calls::{Faults, Hinted, Listed, find_singles, typed_faults};
 use macro_code::{CodePlaces, Coded};
 use macro_elements::Source;
 use macro_heights::find_heights;
@@ -24,7 +24,8 @@ use statements::{Fault, Question, Rejected, Verdict, decide, first_of, lower};
 const HINTS: usize = Machine::TEXT / 2;
 
 // The rows that are filled beside the cells of a list of macros, which are lent: the first cell of each macro; the hints for calls; and of each
-// macro its two heights, and whether it is the only one of its name.
+// macro its two heights, and whether it is the only one of its name. Each has a row of its own, since `find_heights` fills two of them while it reads
+// the others.
 #[derive(Drop)]
 struct Rows {
     firsts: [u16; CodePlaces::MACROS],
@@ -69,13 +70,12 @@ fn read_rows(source: &Source, code: &mut [u32], rows: &mut Rows) -> Reading
     };
     let typed = typed_faults(&list, &mut rows.hints, listing.section);
     find_singles(&list, &mut rows.singles);
-    find_heights(
-        &list,
-        &rows.singles,
-        &rows.hints,
-        &mut rows.quiet,
-        &mut rows.loose,
-    );
+    let hinted = Hinted {
+        listed: list,
+        singles: &rows.singles,
+        hints: &rows.hints,
+    };
+    find_heights(&hinted, &mut rows.quiet, &mut rows.loose);
     Reading { listing, typed }
 }
 
@@ -84,13 +84,10 @@ fn answered(text: &[u8], v: Verdict) -> Result<(), Rejected>
     requires { length text.now ≤ limit.text }
     ensures { Answered text.now v result }
 {
-    match v {
-        Ok(()) => Ok(()),
-        Err(r) => Err(Rejected {
-            question: r.question,
-            line: line_of(text, r.at) as u32,
-        }),
-    }
+    v.map_err(|r| Rejected {
+        question: r.question,
+        line: line_of(text, r.at) as u32,
+    })
 }
 
 // Asks the questions of a text with macros and writes its section, with the place that each byte comes from; and how many bytes it has. There is
@@ -110,14 +107,16 @@ fn expand(
     answered(text, ask_whole(text, marked))?;
     let r = read_rows(&Source { text, marked }, code, rows);
     let list = Macros {
-        listed: Listed {
-            coded: Coded { text, code },
-            firsts: &rows.firsts[..r.listing.count],
+        hinted: Hinted {
+            listed: Listed {
+                coded: Coded { text, code },
+                firsts: &rows.firsts[..r.listing.count],
+            },
+            singles: &rows.singles,
+            hints: &rows.hints,
         },
-        hints: &rows.hints,
         quiet: &rows.quiet,
         loose: &rows.loose,
-        singles: &rows.singles,
     };
     let w = write_section(&list, r.listing.section, out, places);
     answered(text, ask_macros(r.listing.fault, r.typed, w))?;

@@ -26,6 +26,7 @@ fn judged(t: Token, b: u8) -> Token
 }
 
 // The verdict of the three questions. `marked` is the text with a star for each joining apostrophe.
+#[tactic(auto, using(macro_marks::specs::ItemLaws::next_shorter))]
 pub fn ask_whole(text: &[u8], marked: &[u8]) -> Verdict
     requires { Whole text.now marked.now }
     ensures { verdict_of result ≡ first_no (whole_questions text.now) }

@@ -11,9 +11,9 @@ use native.Mathlib.Omega.{arith}
 use lib.Dec.{ltb}
 use lib.ListN.{length, take, drop}
 use borrow.Author.Tests.{ne_eqb, lt-ltb, ltb-true}
+use Rattle.statements.specs.LowerLaws.{lower-right}
 use Rattle.layout.specs.Cells.{tab}
 use Rattle.lists.specs.Lists.{any, filled, if_any}
-use Rattle.statements.specs.Faults.{Fault}
 use Rattle.std.specs.Prelude.{None, Some}
 use Rattle.statements.specs.Faults.{lower}
 use Rattle.statements.specs.FaultLaws.{fault-both}
@@ -41,10 +41,6 @@ use Rattle.macro_reading.proofs.Stretching.{Opened, opened, unopened, until-stre
 none_left : (ts : List spec.Element) → filled ts ≡ false → filled (drop 1 ts) ≡ true → ⊥
 none_left [] e h = false≢true h
 none_left (t ∷ ts) e h = true≢false e
-
-lower-none : (f : Fault) → lower f None ≡ f
-lower-none None = refl
-lower-none (Some z) = refl
 
 -- the words of a header in cells
 tab-rest : {X : Type 0} (k : ℕ) (f : ℕ → X) → drop 1 (tab k f) ≡ tab (k - 1) (λ j. f (suc j))
@@ -199,7 +195,7 @@ module _ {s m c : List ℕ} {n q : ℕ} (p : Definable s m c n q) where
             ∙ sym (λ i. fault_of ((header_faults (op.header_is i) ++ cond (filled_is i && closed_is i) [] (places_in (take 1 (op.body_is i)))) ++ form_faults (is_misplaced (parameters-are i)) (parameters-are i) (body-are i)))
           where
             head-fault : h.passed.fault ≡ fault_of (header_faults (heading s n))
-            head-fault = sym (lower-none h.passed.fault) ∙ ap (λ (ts : List spec.Element). lower h.passed.fault (fault_of (header_faults ts))) (sym g.done) ∙ g.heads.faults
+            head-fault = sym (lower-right h.passed.fault) ∙ ap (λ (ts : List spec.Element). lower h.passed.fault (fault_of (header_faults ts))) (sym g.done) ∙ g.heads.faults
 
             filled_is : filled (header_words (stretch us)) ≡ named
             filled_is = ap filled words_are ∙ tab-filled h.words (λ j. bytes_at s d (word_cell q j))

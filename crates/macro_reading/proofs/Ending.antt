@@ -1,28 +1,32 @@
 -- The first statement, and the list's end.
 use mathlib.Core.Path.{◌≡◌, refl, ap, sym, ◌∙◌}
-use mathlib.Core.Bool.{Bool, true, false, cond, not, ◌&&◌, ◌||◌, true≢false, false≢true}
+use mathlib.Core.Bool.{Bool, true, false, cond, not, ◌&&◌, ◌||◌, true≢false, or-false}
 use mathlib.Core.List.{List, [], ◌∷◌, ◌++◌, append_assoc, append-nil}
 use Rattle.std.specs.Prelude.{Option, Some, None, is_some}
 use Rattle.std.specs.Bool.{then_some}
+use Rattle.std.proofs.lemmas.Bool.{or_parts}
+use Rattle.std.proofs.lemmas.List.Folds.{list_any-append}
+use Rattle.std.proofs.lemmas.List.Elements.{filter-append}
+use Rattle.statements.specs.LowerLaws.{lower-right}
+use Rattle.macros.proofs.AcceptedLaws.{found-has}
 use Rattle.macro_reading.proofs.Reading.{found_from, found_is, next_or}
 use Prim.Native.Nat.{ℕ, ◌+◌, ◌≤◌}
 use native.Mathlib.Nat.{le_refl}
 use native.Mathlib.Omega.{arith}
 use lib.Dec.{eqb}
 use lib.ListN.{length, take, drop}
-use Rattle.lists.specs.Lists.{all, any, filled, head_or, if_any, keep}
+use Rattle.lists.specs.Lists.{all, any, filled, if_any, keep}
 use Rattle.statements.specs.Faults.{Fault}
 use Rattle.statements.specs.Faults.{lower}
 use Rattle.statements.specs.FaultLaws.{fault-both}
 use Rattle.statements.specs.StatementAt.{fault_of}
-use Rattle.syntax.specs.Items.{Sort, same_sort}
 use Rattle.syntax.specs.Verdict.{lowest}
-use Rattle.syntax.specs.Items.Sort.{separator, word, colon, end, text, wrong}
+use Rattle.syntax.specs.Items.Sort.{end}
 use Rattle.macros.specs.Elements as spec
 use Rattle.macros.specs.Elements.{is_word, is_end, is_star, is_open, is_close, is_bracket, is_mark, places_in, until, from}
-use Rattle.macros.proofs.FaultLaws.{keep-both}
 use Rattle.macros.specs.Macros.{from_statement, header_faults}
-use Rattle.macro_changes.proofs.Giving.{lower-assoc, keep-first, neither, one-fault, first_forward, stretch-on, rest-on}
+use Rattle.macros.proofs.SortLaws.{close-no-word}
+use Rattle.macro_changes.proofs.Giving.{lower-assoc, keep-first, one-fault, first_forward, stretch-on, rest-on}
 use Rattle.macro_changes.proofs.Searching.{until-on, until-off, from_on, from-off}
 use Rattle.macro_elements.specs.ElementAt.{joined_at, elements_from, argument_value, Lent, FirstElement, FirstBefore, NextElement}
 use Rattle.macro_elements.specs.declared.Element.{Element}
@@ -53,10 +57,6 @@ module _ {s : List ℕ} {n : ℕ} {t : Element} (k : FirstElement s n t) where
 pub end-none : (s : List ℕ) (n : ℕ) → elements_from s n ≡ [] → elements_from s n ≡ from_statement (elements_from s n)
 end-none s n x = x ∙ sym (ap from_statement x)
 
-pub lower-clear : (f : Fault) → lower f None ≡ f
-lower-clear None = refl
-lower-clear (Some p) = refl
-
 pub firsts-none : {s m : List ℕ} {n : ℕ} → Lent s m n → Firsts s n n None
 firsts-none {s} {m} {n} l = record { from_here = le_refl n; most = l.most; faults = refl; rest = refl }
 
@@ -86,7 +86,7 @@ module _ {s : List ℕ} {n i : ℕ} {f : Fault} (g : Firsts s n i f) where
       record {
         from_here = g.from_here;
         most = g.most;
-        fault_is = sym (lower-clear f) ∙ ap (λ (ts : List spec.Element). lower f (fault_of (outer_faults ts))) (sym h) ∙ g.faults;
+        fault_is = sym (lower-right f) ∙ ap (λ (ts : List spec.Element). lower f (fault_of (outer_faults ts))) (sym h) ∙ g.faults;
         is = sym (whole-from is_end (elements_from s i) h) ∙ g.rest;
       }
 
@@ -111,14 +111,6 @@ unfolding lowest
 first-fault None = refl
 first-fault (Some z) = refl
 
-any-both : (p : spec.Element → Bool) (xs ys : List spec.Element) → any p (xs ++ ys) ≡ (any p xs || any p ys)
-any-both p [] ys = refl
-any-both p (x ∷ xs) ys = go (p x) (any-both p xs ys)
-  where
-    go : (b : Bool) → any p (xs ++ ys) ≡ (any p xs || any p ys) → (b || any p (xs ++ ys)) ≡ ((b || any p xs) || any p ys)
-    go true h = refl
-    go false h = h
-
 abbrev lined : spec.Element → Bool
 lined t = not (is_close t || eqb t.byte 10)
 
@@ -130,31 +122,8 @@ heading-lined (t ∷ ts) = go (is_bracket t) refl (heading-lined ts)
     go true e h = let x = until-off is_bracket t ts e in ap (any lined) x ∙ sym (ap any_there x)
     go false e h =
         let x = until-on is_bracket t ts e in
-        let c : is_close t ≡ false = (neither (is_open t) (is_close t) e).1 in
+        let c : is_close t ≡ false = (or_parts (is_open t) (is_close t) e).1 in
         ap (any lined) x ∙ (λ i. not (c i || eqb t.byte 10) || h i) ∙ sym (ap any_there x)
-
-close-word : (t : spec.Element) → is_close t ≡ true → is_word t ≡ false
-close-word t h = go t.sort h
-  where
-    go : (k : Sort) → (same_sort wrong k && eqb 41 t.byte) ≡ true → same_sort word k ≡ false
-    go separator e = absurd (false≢true e)
-    go word e = absurd (false≢true e)
-    go colon e = absurd (false≢true e)
-    go end e = absurd (false≢true e)
-    go text e = absurd (false≢true e)
-    go wrong e = refl
-
-from_first : (p : spec.Element → Bool) (ts : List spec.Element) (y : spec.Element) (ys : List spec.Element) → from p ts ≡ y ∷ ys → p y ≡ true
-from_first p [] y ys e = absurd (false≢true (ap filled e))
-from_first p (t ∷ ts) y ys e = go (p t) refl (from_first p ts y ys)
-  where
-    go : (b : Bool) → p t ≡ b → (from p ts ≡ y ∷ ys → p y ≡ true) → p y ≡ true
-    go true q k = let z : t ≡ y = ap (head_or t) (sym (from-off p t ts q) ∙ e) in ap p (sym z) ∙ q
-    go false q k = k (sym (from_on p t ts q) ∙ e)
-
-or-none : (b : Bool) → (b || false) ≡ b
-or-none true = refl
-or-none false = refl
 
 module _ {s m c : List ℕ} {n q : ℕ} (p : Tailed s m c n q) {d : List ℕ} {h : Header} (g : HeaderRead s c d n q h) (o : Option Element) (k : NextElement s h.passed.next o) where
   abbrev us : List spec.Element
@@ -181,7 +150,7 @@ module _ {s m c : List ℕ} {n q : ℕ} (p : Tailed s m c n q) {d : List ℕ} {h
   from-close = un.rest_is ∙ sym g.heads.rest ∙ whole-from is_bracket (elements_from s h.passed.next) g.done ∙ found_is o k
 
   first-close : (b : Element) → o ≡ Some b → is_close (argument_value s b) ≡ true
-  first-close b e = from_first is_close us (argument_value s b) (elements_from s b.next) (from-close ∙ ap (found_from s) e)
+  first-close b e = found-has is_close us (argument_value s b) (elements_from s b.next) (from-close ∙ ap (found_from s) e)
 
   head_is : until is_close us ≡ heading s n
   head_is = sym (until-stretch us) ∙ un.header_is
@@ -191,14 +160,14 @@ module _ {s m c : List ℕ} {n q : ℕ} (p : Tailed s m c n q) {d : List ℕ} {h
 
   words-there : places_in (take 1 (keep is_word x)) ≡ placed h.first
   words-there =
-      ap (λ (ts : List spec.Element). places_in (take 1 ts)) (ap (keep is_word) whole ∙ keep-both is_word (heading s n) (take 1 (found_from s o)) ∙ go o refl)
+      ap (λ (ts : List spec.Element). places_in (take 1 ts)) (ap (keep is_word) whole ∙ filter-append is_word (heading s n) (take 1 (found_from s o)) ∙ go o refl)
       ∙ sym g.heads.first_is
       ∙ ap (λ (ts : List spec.Element). take 1 (placed h.first ++ first_word ts)) g.done
       ∙ goes h.first
     where
       go : (z : Option Element) → o ≡ z → keep is_word (heading s n) ++ keep is_word (take 1 (found_from s z)) ≡ keep is_word (heading s n)
       go None e = append-nil (keep is_word (heading s n))
-      go (Some b) e = ap (λ (y : Bool). keep is_word (heading s n) ++ cond y (argument_value s b ∷ []) []) (close-word (argument_value s b) (first-close b e)) ∙ append-nil (keep is_word (heading s n))
+      go (Some b) e = ap (λ (y : Bool). keep is_word (heading s n) ++ cond y (argument_value s b ∷ []) []) (close-no-word (argument_value s b) (first-close b e)) ∙ append-nil (keep is_word (heading s n))
 
       goes : (z : Option ℕ) → take 1 (placed z ++ first_word []) ≡ placed z
       goes None = refl
@@ -207,12 +176,12 @@ module _ {s m c : List ℕ} {n q : ℕ} (p : Tailed s m c n q) {d : List ℕ} {h
   some-there : any lined x ≡ h.some
   some-there =
       ap (any lined) whole
-      ∙ any-both lined (heading s n) (take 1 (found_from s o))
+      ∙ list_any-append lined (heading s n) (take 1 (found_from s o))
       ∙ (λ i. heading-lined us i || last_none o refl i)
-      ∙ or-none (any_there (heading s n))
+      ∙ or-false (any_there (heading s n))
       ∙ sym g.heads.some_is
       ∙ ap (λ (ts : List spec.Element). h.some || any_there ts) g.done
-      ∙ or-none h.some
+      ∙ or-false h.some
     where
       last_none : (z : Option Element) → o ≡ z → any lined (take 1 (found_from s z)) ≡ false
       last_none None e = refl
@@ -239,7 +208,7 @@ module _ {s m c : List ℕ} {n q : ℕ} (p : Tailed s m c n q) {d : List ℕ} {h
       ∙ sym (λ i. fault_of ((header_faults (un.header_is i) ++ words-there i) ++ cond (closed-there i && (defined || some-there i)) [] (at ∷ [])))
     where
       head-fault : h.passed.fault ≡ fault_of (header_faults (heading s n))
-      head-fault = sym (lower-clear h.passed.fault) ∙ ap (λ (ts : List spec.Element). lower h.passed.fault (fault_of (header_faults ts))) (sym g.done) ∙ g.heads.faults
+      head-fault = sym (lower-right h.passed.fault) ∙ ap (λ (ts : List spec.Element). lower h.passed.fault (fault_of (header_faults ts))) (sym g.done) ∙ g.heads.faults
 
       turned₁ : (z : Bool) → fault_of (cond (not z) (at ∷ []) []) ≡ fault_of (cond z [] (at ∷ []))
       turned₁ true = refl

@@ -1,10 +1,10 @@
 -- Definitions one after the other in cells.
 use mathlib.Core.Path.{◌≡◌, refl, ap, sym, ◌∙◌}
-use mathlib.Core.Bool.{Bool, true, false, cond, ◌||◌, false≢true}
+use mathlib.Core.Bool.{Bool, true, false, cond, ◌||◌, false≢true, or-true}
 use mathlib.Core.List.{List, [], ◌∷◌, ◌++◌, append_assoc, append-nil}
 use Rattle.std.specs.Prelude.{Option, Some}
 use Rattle.std.specs.Option.{is_some}
-use Prim.Native.Nat.{ℕ, zero, suc, ◌+◌, ◌*◌, ◌/◌, ◌≤◌, ◌<◌}
+use Prim.Native.Nat.{ℕ, ◌+◌, ◌*◌, ◌/◌, ◌≤◌, ◌<◌}
 use native.Mathlib.Nat.{le_refl}
 use native.Mathlib.Decide.{dec_lt}
 use native.Mathlib.Omega.{arith}
@@ -20,9 +20,9 @@ use Rattle.statements.specs.StatementAt.{fault_of}
 use Rattle.macros.specs.Elements as spec
 use Rattle.macros.specs.Macros.{Macro, has_body, macro_of, definition_faults}
 use Rattle.macros.specs.Pieces.{pieces_from}
-use Rattle.macro_code.specs.Code.{high, low, size_at, bytes_at, parameter_count, change_count, first_change, changes_in, behind_changes, body_in, macro_in, macros_in}
+use Rattle.macro_code.specs.Code.{high, low, bytes_at, parameter_count, change_count, first_change, changes_in, behind_changes, body_in, macro_in, macros_in}
 use Rattle.macro_changes.specs.Changing.{Kept}
-use Rattle.macro_changes.proofs.Cells.{tab-cong, tab-last, kept-agree, bytes-agree, changes-agree}
+use Rattle.macro_changes.proofs.Cells.{tab-cong, tab-last, kept-agree, bytes-agree, changes-agree, behind-from}
 use Rattle.macro_changes.proofs.Giving.{lower-assoc}
 use Rattle.macro_elements.specs.ElementAt.{elements_from}
 use Rattle.macro_reading.specs.Definitions.{stretch, defined_in, last_in, after_in, Defining, Defined, Listable, Lies, Listing}
@@ -33,12 +33,6 @@ use Rattle.macro_reading.proofs.Stretching.{defined-on, last_on, after_on}
 module _ {c d : List ℕ} {q : ℕ} (k : Kept c d q) (a : ℕ) (l : Lies c a q) where
   cell_of : (i : ℕ) → i ≤ 2 → get_or d (a + i) 0 ≡ get_or c (a + i) 0
   cell_of i h = k.same (a + i) (omega (arith, l.own))
-
-  own-cell : get_or d a 0 ≡ get_or c a 0
-  own-cell = k.same a (omega (arith, l.own))
-
-  first-same : first_change d a ≡ first_change c a
-  first-same = rw (cell_of 2 (le_refl 2)) refl
 
   all_same : (s : List ℕ) → (changes_in s d (first_change c a) (change_count c a) ≡ changes_in s c (first_change c a) (change_count c a)) × (behind_changes d (first_change c a) (change_count c a) ≡ behind_changes c (first_change c a) (change_count c a))
   all_same s = changes-agree (kept-agree k) s (change_count c a) (first_change c a) (omega arith) l.all_of_it
@@ -64,26 +58,10 @@ module _ {c d : List ℕ} {q : ℕ} (k : Kept c d q) (a : ℕ) (l : Lies c a q) 
       let f : get_or d (a + 2) 0 ≡ get_or c (a + 2) 0 = cell_of 2 (le_refl 2) in
       record { own = rw f l.own; all_of_it = rw f (rw (all_same []).1 l.all_of_it) }
 
-none-behind : (c : List ℕ) (i : ℕ) → i ≤ behind_changes c i zero
-unfolding behind_changes
-none-behind c i = le_refl i
-
-one-behind : (c : List ℕ) (i n : ℕ) → i ≤ behind_changes c (i + size_at c i) n → i ≤ behind_changes c i (suc n)
-unfolding behind_changes
-one-behind c i n h = h
-
 -- a definition takes a byte at least, and two where it has a name
 pub step-least : (w : Bool) → 1 ≤ cond w 2 1
 step-least true = omega arith
 step-least false = omega arith
-
-or-true : (b : Bool) → (b || true) ≡ true
-or-true true = refl
-or-true false = refl
-
-behind-least : (c : List ℕ) (i n : ℕ) → i ≤ behind_changes c i n
-behind-least c i zero = none-behind c i
-behind-least c i (suc n) = let h = behind-least c (i + size_at c i) n in one-behind c i n (omega (arith, h))
 
 pub lies-on : {c : List ℕ} {a q r : ℕ} → Lies c a q → q ≤ r → Lies c a r
 lies-on h l = record { own = omega (arith, h.own); all_of_it = omega (arith, h.all_of_it) }
@@ -164,7 +142,7 @@ module _ {s m c firsts : List ℕ} {n : ℕ} (p : Listable s m c firsts n) where
       own_first = get_or-set_same f k q 0 below
 
       new-lies : Lies e q r.used
-      new-lies = record { own = omega (arith, z.used_is, behind-least e (first_change e q) (change_count e q)); all_of_it = omega (arith, z.used_is) }
+      new-lies = record { own = omega (arith, z.used_is, behind-from e (change_count e q) (first_change e q)); all_of_it = omega (arith, z.used_is) }
 
       old-lies : (j : ℕ) → j < k → Lies e (get_or f' j 0) q
       old-lies j l = rw (same-below j l) (lies_same y.kept (get_or f j 0) (h.placed j l))

@@ -1,6 +1,6 @@
 -- The section, the list, and the whole text.
 use mathlib.Core.Path.{◌≡◌, refl, ap, sym, ◌∙◌}
-use mathlib.Core.Bool.{Bool, true, false, cond, not, ◌&&◌, ◌||◌, false≢true}
+use mathlib.Core.Bool.{Bool, true, false, cond, not, ◌&&◌, ◌||◌, false≢true, or-false}
 use mathlib.Core.List.{List, [], ◌∷◌, ◌++◌, map, append-nil}
 use Prim.Native.Nat.{ℕ, ◌+◌, ◌≤◌, ◌<◌}
 use native.Mathlib.Nat.{le_refl}
@@ -9,6 +9,7 @@ use lib.Dec.{eqb}
 use lib.ListN.{length, get_or, set, take, drop, length-set}
 use lib.Seq.{get_or-set_same, get_or-set_other}
 use Rattle.std.specs.Bool.{then_some}
+use Rattle.statements.specs.LowerLaws.{lower-right}
 use Rattle.layout.specs.Cells.{tab}
 use Rattle.lists.specs.Lists.{any, each, filled, if_any, keep}
 use Rattle.statements.specs.Faults.{Fault}
@@ -21,7 +22,7 @@ use Rattle.macros.specs.Macros.{macro_of, macros_in, header_faults, definition_f
 use Rattle.macros.specs.Pieces.{Change, section_changes, is_stray, form_faults}
 use Rattle.macro_code.specs.Code as code
 use Rattle.macro_code.specs.Code.{paired}
-use Rattle.macro_changes.specs.Changing.{ReadChanges, parameters_of, shuts, stop_of, changes_of, wrong_in}
+use Rattle.macro_changes.specs.Changing.{Kept, ReadChanges, parameters_of, shuts, stop_of, changes_of, wrong_in}
 use Rattle.std.specs.Prelude.{None}
 use Rattle.macro_changes.specs.Changing.{Scope}
 use Rattle.macro_changes.specs.declared.Passed.{Passed}
@@ -33,11 +34,10 @@ use Rattle.macro_elements.specs.ElementAt.{elements_from, argument_value, Lent, 
 use Rattle.macro_elements.specs.declared.Element.{Element}
 use Rattle.macro_reading.specs.Definitions.{OpenAt, stretch, defined_in, last_in, after_in, Listable, DefinitionsRead}
 use Rattle.macro_reading.specs.Sections.{outer_faults, Skips, FirstRead, Tailed, tail_faults, TailRead}
-use Rattle.macro_reading.specs.Whole.{SectionCells, Sectioned, SectionRead, gone, Puttable, Puts, follow_faults, Bracketed, list_from, list_at, list_stop, ListRead, LentRows, MacrosRead}
+use Rattle.macro_reading.specs.Whole.{SectionCells, Sectioned, SectionRead, gone, follow_faults, Bracketed, list_from, list_at, list_stop, ListRead, LentRows, MacrosRead}
 use Rattle.macro_reading.specs.declared.Definitions.{Definitions}
 use Rattle.macro_reading.specs.declared.Listing.{Listing}
 use Rattle.macro_reading.specs.declared.Tail.{Tail}
-use Rattle.macro_reading.proofs.Ending.{lower-clear}
 use Rattle.macro_reading.proofs.Enlisting.{listing-kept}
 use Rattle.macro_reading.proofs.Reading.{all-changes, fault-there, record_cells, span-there, counts-there, record-kept, above-there}
 use Rattle.macro_reading.proofs.Stretching.{defined-none, last-here, after-here}
@@ -117,6 +117,16 @@ module _ {s m c : List ℕ} {q before u n : ℕ} (p : Sectioned s m c q before u
         }
 
 -- the list, as a change
+pub record Puttable (c : List ℕ) (u at stop : ℕ) : Type 0 where
+  pub room : u + 2 ≤ length c
+  pub at_low : at < 65536
+  pub stop_low : stop < 65536
+
+pub record Puts (c d : List ℕ) (u at stop : ℕ) : Type 0 where
+  pub kept : Kept c d u
+  pub change_is : (s : List ℕ) → code.changes_in s d u 1 ≡ gone at stop ∷ []
+  pub behind_is : code.behind_changes d u 1 ≡ u + 2
+
 module _ {c : List ℕ} {u at stop : ℕ} (p : Puttable c u at stop) where
   abbrev list_cells : List ℕ
   list_cells = set (set c u (paired at stop)) (u + 1) (paired 2 0)
@@ -127,7 +137,7 @@ module _ {c : List ℕ} {u at stop : ℕ} (p : Puttable c u at stop) where
   kind-there : get_or list_cells (u + 1) 0 ≡ paired 2 0
   kind-there = get_or-set_same (set c u (paired at stop)) (u + 1) (paired 2 0) 0 (simp length-set (omega (arith, p.room)))
 
-  pub list_put : Puts c list_cells u at stop
+  list_put : Puts c list_cells u at stop
   unfolding code.changes_in code.behind_changes code.change_in code.size_at
   list_put =
       record {
@@ -136,9 +146,8 @@ module _ {c : List ℕ} {u at stop : ℕ} (p : Puttable c u at stop) where
         behind_is = rw kind-there refl;
       }
 
-or-none : (b : Bool) → (b || false) ≡ b
-or-none true = refl
-or-none false = refl
+  pub list-by : {d : List ℕ} → d ≡ list_cells → Puts c d u at stop
+  list-by e = rw e list_put
 
 -- what follows the list
 pub follow-is : {s : List ℕ} {n : ℕ} {t : Element} → FirstElement s n t → {b : Bool} → b ≡ not (is_end (argument_value s t)) → then_some b t.at ≡ fault_of (follow_faults (elements_from s n))
@@ -186,7 +195,6 @@ module _ {s m c firsts : List ℕ} {t : Element} (p : Bracketed s m c firsts t) 
           let h = p.held in
           record {
             room = omega (arith, a.lists.paid, a.lists.most, p.room, p.held.small, a.lists.size, b.kept.size);
-            wide = omega (arith, p.wide, a.lists.size, b.kept.size);
             at_low = omega (arith, h.own, h.ends, h.small);
             stop_low = omega (arith, b.stop_most, p.held.small);
           }
@@ -238,12 +246,12 @@ module _ {s m c firsts : List ℕ} {t : Element} (p : Bracketed s m c firsts t) 
             where
               defined-fault : r.passed.fault ≡ fault_of (each definition_faults (defined_in us))
               defined-fault =
-                  sym (lower-clear r.passed.fault)
+                  sym (lower-right r.passed.fault)
                   ∙ ap (λ (xs : List (List spec.Element)). lower r.passed.fault (fault_of (each definition_faults xs))) (sym none_more)
                   ∙ a.lists.faults
 
               defined-there : r.defined ≡ filled (defined_in us)
-              defined-there = sym (or-none r.defined) ∙ ap (λ (xs : List (List spec.Element)). r.defined || filled xs) (sym none_more) ∙ a.lists.defined_is
+              defined-there = sym (or-false r.defined) ∙ ap (λ (xs : List (List spec.Element)). r.defined || filled xs) (sym none_more) ∙ a.lists.defined_is
 
               tail-there : w.passed.fault ≡ fault_of (tail_faults t.at (filled (defined_in us)) (last_in us))
               tail-there = b.fault_is ∙ (λ i. fault_of (tail_faults t.at (defined-there i) (sym the_last i)))

@@ -7,8 +7,8 @@ use native.Mathlib.Nat.{le_refl}
 use native.Mathlib.Omega.{arith}
 use lib.ListN.{length, get_or, set, drop, length-set}
 use lib.Seq.{get_or-set_same, get_or-set_other}
+use Rattle.statements.specs.LowerLaws.{lower-right}
 use Rattle.lists.specs.Lists.{filled, if_any}
-use Rattle.statements.specs.Faults.{Fault}
 use Rattle.std.specs.Prelude.{Option, None, Some, is_some}
 use Rattle.statements.specs.Faults.{lower}
 use Rattle.statements.specs.StatementAt.{fault_of}
@@ -35,10 +35,6 @@ none-changed false ps stop = refl
 none-wrong : (w : spec.Element → Bool) (ps : List (List ℕ)) → form_faults w ps [] ≡ []
 unfolding form_faults stretches called_faults
 none-wrong w ps = refl
-
-lower-right : (f : Fault) → lower f None ≡ f
-lower-right None = refl
-lower-right (Some p) = refl
 
 -- an element, or none, and what follows
 abbrev pub found_from : List ℕ → Option Element → List spec.Element
@@ -123,9 +119,6 @@ module _ {s m c d : List ℕ} {x : Scope} {q start n : ℕ} (p : Bodied s m c x 
 
   abbrev written : List ℕ
   written = record_cells d q start stop (count_in x) r.count record-room
-
-  start_low : start < 65536
-  start_low = omega (arith, p.starts, p.reading.lent.size)
 
   none_after : elements_from s r.passed.next ≡ found_from s o
   none_after = found_is o k

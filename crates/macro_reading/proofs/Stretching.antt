@@ -6,15 +6,14 @@ use Prim.Native.Nat.{suc}
 use native.Mathlib.Omega.{arith}
 use lib.Dec.{eqb}
 use lib.ListN.{take, drop}
-use borrow.Author.Tests.{ne_eqb}
+use borrow.Author.Tests.{ne_eqb, eqb-true}
+use Rattle.std.proofs.lemmas.Bool.{or_parts}
 use Rattle.lists.specs.Lists.{ahead, any, filled, head_or, if_any, joined}
 use Rattle.syntax.specs.Items.{same_sort}
 use Rattle.syntax.specs.Items.Sort.{wrong}
 use Rattle.macros.specs.Elements.{Element, is_open, is_close, is_bracket, until, from, cut_off, stretches}
 use Rattle.macros.specs.Macros.{has_body}
 use Rattle.macros.proofs.PlaceLaws.{joined-stretches}
-use Rattle.macros.proofs.PlainLaws.{equal}
-use Rattle.macro_changes.proofs.Giving.{neither}
 use Rattle.macro_reading.specs.Definitions.{stretch, bodiless, defined_in, last_in, after_in}
 use Rattle.macro_changes.proofs.Searching.{until-on, until-off, from_on, from-off}
 
@@ -95,7 +94,7 @@ open-close : (t : Element) → is_open t ≡ true → is_close t ≡ false
 open-close t h = go (same_sort wrong t.sort) (eqb 40 t.byte) refl h
   where
     go : (w e : Bool) → eqb 40 t.byte ≡ e → (w && e) ≡ true → (w && eqb 41 t.byte) ≡ false
-    go true true e k = ne_eqb 41 t.byte (λ y. let z = equal 40 t.byte e in omega arith)
+    go true true e k = ne_eqb 41 t.byte (λ y. let z = eqb-true 40 t.byte e in omega arith)
     go true false e k = absurd (false≢true k)
     go false e f k = absurd (false≢true k)
 
@@ -120,7 +119,7 @@ opened-here t ts o =
 
 opened-later : (t : Element) (ts : List Element) {b : Element} {rs : List Element} → is_bracket t ≡ false → Opened ts b rs → Opened (t ∷ ts) b rs
 opened-later t ts e h =
-    let p = neither (is_open t) (is_close t) e in
+    let p = or_parts (is_open t) (is_close t) e in
     let s = stretch-more t ts p.1 in
     record {
       header_is = ap (until is_open) s ∙ until-on is_open t (stretch ts) p.0 ∙ ap (λ (us : List Element). t ∷ us) h.header_is ∙ sym (until-on is_bracket t ts e);
@@ -165,7 +164,7 @@ unopened (t ∷ ts) h = go (is_bracket t) refl (unopened ts)
     go true q k = here q (sym (ap (if_any false is_open) (from-off is_bracket t ts q)) ∙ h)
     go false q k =
         let r = k (sym (ap (if_any false is_open) (from_on is_bracket t ts q)) ∙ h) in
-        let p = neither (is_open t) (is_close t) q in
+        let p = or_parts (is_open t) (is_close t) q in
         let s = stretch-more t ts p.1 in
         record {
           bodiless_is = ap has_body s ∙ rw p.0 r.bodiless_is;

@@ -44,17 +44,6 @@ pub record SectionRead (s c d : List ℕ) (q before n : ℕ) (r : Fault) : Type 
 abbrev pub gone : ℕ → ℕ → Change
 gone at stop = record { start = at; stop = stop; pieces = [] }
 
-pub record Puttable (c : List ℕ) (u at stop : ℕ) : Type 0 where
-  pub room : u + place.small_size ≤ length c
-  pub wide : length c ≤ 131072
-  pub at_low : at < place.half
-  pub stop_low : stop < place.half
-
-pub record Puts (c d : List ℕ) (u at stop : ℕ) : Type 0 where
-  pub kept : Kept c d u
-  pub change_is : (s : List ℕ) → changes_in s d u 1 ≡ gone at stop ∷ []
-  pub behind_is : behind_changes d u 1 ≡ u + place.small_size
-
 abbrev pub follow_faults : List spec.Element → List ℕ
 follow_faults ts = places_in (keep (λ t. not (is_end t)) (take 1 ts))
 

@@ -5,7 +5,7 @@ ghost use Rattle.std.specs.Option.{option_or};
 ghost use Rattle.std.specs.Prelude.{Some, None, ◌≡◌, cond, not, List, [], ◌∷◌, ℕ, ◌-◌, ◌<◌};
 ghost use Rattle.macros.specs.Elements.{is_bracket};
 ghost use Rattle.macro_elements.specs.ElementAt.{elements_from, argument_value, Lent};
-ghost use Rattle.macro_reading.specs.Whole.{follow_faults, Sectioned, SectionRead, Puttable, Puts, Bracketed, ListRead, LentRows, MacrosRead};
+ghost use Rattle.macro_reading.specs.Whole.{follow_faults, Sectioned, SectionRead, Bracketed, ListRead, LentRows, MacrosRead};
 ghost use Rattle.macro_reading.specs.Sections.{outer, Skips, FirstRead, Tailed, TailRead};
 ghost use Rattle.statements.specs.Faults.{lower};
 ghost use Rattle.statements.specs.StatementAt.{fault_of};
@@ -13,7 +13,7 @@ ghost use Rattle.macro_reading.specs.Definitions.{NextOpen, Definable, Defined, 
 ghost use Rattle.macro_reading.specs.Bodies.{Bodied, BodyRead};
 ghost use Rattle.macro_reading.specs.Headers.{word_cell, Headable, HeaderRead};
 
-use macro_changes::{Parameters, Passed, put, read_changes};
+use macro_changes::{Parameters, Passed, put, put_two, read_changes};
 use macro_code::CodePlaces;
 use macro_elements::{Element, Source, is_identifier, is_mark, next_before, next_element};
 use scanner::Sort;
@@ -290,15 +290,6 @@ fn read_section(
     r.passed.fault
 }
 
-// The list itself is a change of the section, the first: it goes with its brackets.
-fn put_list(code: &mut [u32], u: usize, at: usize, stop: usize)
-    requires { Puttable code.old u at stop }
-    ensures { Puts code.old code.new u at stop }
-{
-    put(code, u, at, stop);
-    put(code, u + CodePlaces::KIND, CodePlaces::NOTHING, 0);
-}
-
 // What follows the list, if it ends no statement.
 fn follow_fault(source: &Source, n: usize) -> Fault
     requires { Lent source.now.text.now source.now.marked.now n }
@@ -308,7 +299,8 @@ fn follow_fault(source: &Source, n: usize) -> Fault
     (!t.is(Sort::End)).then_some(t.at)
 }
 
-// The list that begins with this bracket, and the section behind it; `first` is the fault of the first statement.
+// The list that begins with this bracket, and the section behind it; `first` is the fault of the first statement. The list itself is a change of the
+// section, the first: it goes with its brackets.
 fn read_list(
     source: &Source,
     code: &mut [u32],
@@ -325,7 +317,7 @@ fn read_list(
     let next = e.passed.next;
     let before = lower(first, follow_fault(source, next));
     let u = d.used + CodePlaces::PARAMETERS;
-    put_list(code, u, at, e.stop);
+    put_two(code, u, at, e.stop, CodePlaces::NOTHING, 0);
     let section = read_section(source, code, d.used, 1, u + CodePlaces::SMALL_SIZE, next);
     Listing {
         count: d.count,

@@ -10,7 +10,8 @@ use Rattle.macro_values.specs.Wrote.{is_over, size_of, Wrote}
 use Rattle.macros.specs.Expansion.{Writing, just}
 use Rattle.statements.specs.Faults.{lower}
 use Rattle.statements.specs.FaultLaws.{fault-both}
-use Rattle.statements.specs.LowestLaws.{none_before, fault-first}
+use Rattle.statements.specs.LowestLaws.{fault-first}
+use Rattle.statements.specs.Places.{none_before}
 use Rattle.statements.specs.StatementAt.{fault_of}
 use Rattle.statements.specs.Faults.{Fault}
 use Rattle.std.specs.Prelude.{None, Some}

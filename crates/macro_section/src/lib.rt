@@ -54,8 +54,8 @@ fn section_change(
     cell: usize,
     v: Written,
 ) -> Written
-    requires { (cell < reach) × (size_of v ≤ length out.old) × Remembers list.now.listed.coded.text.now list.now.listed.coded.code.now list.now.listed.firsts.now (length list.now.listed.firsts.now) memory.old.slots v }
-    ensures { Wrote (change_writes list.now.listed.coded.text.now list.now.listed.coded.code.now list.now.listed.firsts.now (length list.now.listed.firsts.now) [] levels cell) v result out.old out.new × Remembers list.now.listed.coded.text.now list.now.listed.coded.code.now list.now.listed.firsts.now (length list.now.listed.firsts.now) memory.new.slots result }
+    requires { (cell < reach) × (size_of v ≤ length out.old) × Remembers list.now.hinted.listed.coded.text.now list.now.hinted.listed.coded.code.now list.now.hinted.listed.firsts.now (length list.now.hinted.listed.firsts.now) memory.old.slots v }
+    ensures { Wrote (change_writes list.now.hinted.listed.coded.text.now list.now.hinted.listed.coded.code.now list.now.hinted.listed.firsts.now (length list.now.hinted.listed.firsts.now) [] levels cell) v result out.old out.new × Remembers list.now.hinted.listed.coded.text.now list.now.hinted.listed.coded.code.now list.now.hinted.listed.firsts.now (length list.now.hinted.listed.firsts.now) memory.new.slots result }
 {
     let level = Level { cell, left: LEVELS };
     macro_expansion::write_change(list, memory, out, level, v)
@@ -98,10 +98,10 @@ fn write_parts(
     places: &mut [u16],
     section: usize,
 ) -> WrittenOut
-    requires { (section < half) × Room out.old places.old × Steady (high list.now.listed.coded.code.now (section + span_cell)) (changes_in list.now.listed.coded.text.now list.now.listed.coded.code.now (first_change list.now.listed.coded.code.now section) (change_count list.now.listed.coded.code.now section)) × Remembers list.now.listed.coded.text.now list.now.listed.coded.code.now list.now.listed.firsts.now (length list.now.listed.firsts.now) memory.old.slots none }
-    ensures { Sectioned list.now.listed.coded.text.now list.now.listed.coded.code.now list.now.listed.firsts.now (length list.now.listed.firsts.now) section result out.old out.new places.new }
+    requires { (section < half) × Room out.old places.old × Steady (high list.now.hinted.listed.coded.code.now (section + span_cell)) (changes_in list.now.hinted.listed.coded.text.now list.now.hinted.listed.coded.code.now (first_change list.now.hinted.listed.coded.code.now section) (change_count list.now.hinted.listed.coded.code.now section)) × Remembers list.now.hinted.listed.coded.text.now list.now.hinted.listed.coded.code.now list.now.hinted.listed.firsts.now (length list.now.hinted.listed.firsts.now) memory.old.slots none }
+    ensures { Sectioned list.now.hinted.listed.coded.text.now list.now.hinted.listed.coded.code.now list.now.hinted.listed.firsts.now (length list.now.hinted.listed.firsts.now) section result out.old out.new places.new }
 {
-    let coded = &list.listed.coded;
+    let coded = &list.hinted.listed.coded;
     let stop = coded.low(section + CodePlaces::SPAN);
     let room = out.len();
     let mut place = coded.high(section + CodePlaces::SPAN);
@@ -131,8 +131,8 @@ pub fn write_section(
     out: &mut [u8],
     places: &mut [u16],
 ) -> WrittenOut
-    requires { (section < half) × Room out.old places.old × Steady (high list.now.listed.coded.code.now (section + span_cell)) (changes_in list.now.listed.coded.text.now list.now.listed.coded.code.now (first_change list.now.listed.coded.code.now section) (change_count list.now.listed.coded.code.now section)) }
-    ensures { Sectioned list.now.listed.coded.text.now list.now.listed.coded.code.now list.now.listed.firsts.now (length list.now.listed.firsts.now) section result out.old out.new places.new }
+    requires { (section < half) × Room out.old places.old × Steady (high list.now.hinted.listed.coded.code.now (section + span_cell)) (changes_in list.now.hinted.listed.coded.text.now list.now.hinted.listed.coded.code.now (first_change list.now.hinted.listed.coded.code.now section) (change_count list.now.hinted.listed.coded.code.now section)) }
+    ensures { Sectioned list.now.hinted.listed.coded.text.now list.now.hinted.listed.coded.code.now list.now.hinted.listed.firsts.now (length list.now.hinted.listed.firsts.now) section result out.old out.new places.new }
 {
     let mut memory = Memory::new();
     write_parts(list, &mut memory, out, places, section)

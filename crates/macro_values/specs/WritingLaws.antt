@@ -2,6 +2,7 @@
 use Rattle.std.specs.Prelude.{Some, None, ◌≡◌, refl, Bool, true, false, ◌||◌, List, [], ◌++◌, ℕ, ◌+◌, ◌≤◌, ◌<◌, ltb, length, take, drop}
 use Rattle.std.proofs.Common.{sym, ap, ◌∙◌, true≢false, append_assoc, append-nil, arith, lt-ltb, le-ltb, length-append, length-take, length-drop, length-take-le, take_at}
 use Rattle.std.proofs.Math.Decide.{dec_lt}
+use mathlib.Core.Bool.{or-true}
 use Rattle.macros.proofs.FaultLaws.{places-both}
 use Rattle.macros.specs.Expansion.{Fault, Writing, places_of, followed_by, just}
 use Rattle.statements.specs.Faults.{lower}
@@ -32,10 +33,6 @@ fault-then number xs ys v u r e f =
     ∙ ap (lower v) (sym (ap fault_of (places-both number xs ys) ∙ fault-both (places_of number xs) (places_of number ys)))
 
 -- whether it is over, in two steps
-or-true : (b : Bool) → (b || true) ≡ true
-or-true true = refl
-or-true false = refl
-
 over-then : (v d e : Bool) (o n b m : ℕ) (u r : Bool) → u ≡ (v || (d || ltb o n)) → (u ≡ false → m ≡ n) → r ≡ (u || (e || ltb o (m + b)))
     → r ≡ (v || ((d || e) || ltb o (n + b)))
 over-then true d e o n b m u r f g h = rw f at h

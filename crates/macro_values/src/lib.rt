@@ -3,16 +3,17 @@
 
 ghost use Rattle.std.specs.Prelude.{◌≡◌, [], ◌≤◌, ◌<◌, ◌-◌, length, get_or, take, drop};
 ghost use Rattle.macro_code.specs.Bounds.{near, far};
-ghost use Rattle.macro_code.specs.Code.{given_in, arguments_in, argument_cell};
+ghost use Rattle.macro_code.specs.Code.{given_in, arguments_in};
 ghost use Rattle.macro_code.specs.Places.{half};
 ghost use Rattle.macros.specs.Expansion.{just, filled_in};
-ghost use Rattle.macro_values.specs.Values.{reach, own, ArgumentOf, Above};
+ghost use Rattle.macro_values.specs.Values.{own, ArgumentOf, Above};
 ghost use Rattle.macro_values.specs.Wrote.{size_of, none, Wrote};
 
-use macro_code::{CodePlaces, Coded, Given};
+use macro_code::{CodePlaces, Coded, Given, argument_cell};
 use statements::Fault;
 
 // What is written: how many bytes, none if there is no room for all, or if a call is too deep; and the faults of 64 and of 65 that are met.
+// The two faults are no `Faults` of `macro_calls`: each is met alone, so that where one is lowered an update would stand within an update.
 // The row of bytes is lent beside it: of a struct with a `&mut` to the row, each function and each loop would have to say that it is still that row.
 #[derive(Clone, Copy, Debug, PartialEq, Eq)]
 pub struct Written {
@@ -67,14 +68,6 @@ pub fn cell_at(row: &[u32], k: usize) -> usize
     ensures { (result ≡ get_or row.now k 0) × (result < near) }
 {
     row.get(k).map_or(0, |x| *x as usize)
-}
-
-// The cell of an argument of a call.
-pub fn argument_cell(call: usize, k: usize) -> usize
-    requires { (call < reach) × (k < half) }
-    ensures { (result ≡ argument_cell call k) × (result < far) }
-{
-    call + CodePlaces::ARGUMENTS + CodePlaces::GIVEN_SIZE * k
 }
 
 // A text with its cells, and the cells of nested calls, of which so many are around.

@@ -4,8 +4,9 @@ use mathlib.Core.Logic.{◌≢◌}
 use mathlib.Core.List.{List, [], ◌∷◌, ◌++◌}
 use Prim.Native.Nat.{ℕ, suc, ◌-◌, ◌≤◌, ◌<◌}
 use native.Mathlib.Omega.{arith}
-use lib.ListN.{length, get_or, take, drop, drop_of_length-le}
+use lib.ListN.{length, get_or, take, drop}
 use lib.Seq.{length-take-le, take-take, drop-cons, split_at, take-suc, get_or-take}
+use Rattle.std.proofs.lemmas.List.{drop_all}
 use Rattle.text_lines.specs.Lines.{lines}
 use Rattle.shorten_calls.proofs.LineLaws.{lf-split, one_byte, one_more, no_lines}
 use Rattle.shortening.specs.Trying.{Ending, LineStart}
@@ -24,11 +25,8 @@ module _ (s : List ℕ) (end : ℕ) where
   scan-begin h =
       let long : length u ≡ end = length-take-le end s h.within in
       let e : drop (end - 1) u ≡ get_or u (end - 1) 0 ∷ [] =
-      drop-cons u (end - 1) 0 (omega (arith, long, h.some)) ∙ ap (λ (l : List ℕ). get_or u (end - 1) 0 ∷ l) (past u (suc (end - 1)) (omega (arith, long))) in
+      drop-cons u (end - 1) 0 (omega (arith, long, h.some)) ∙ ap (λ (l : List ℕ). get_or u (end - 1) 0 ∷ l) (drop_all (suc (end - 1)) u (omega (arith, long))) in
       record { below = omega (arith, h.some); within = h.within; one = ap lines e ∙ one_byte (get_or u (end - 1) 0) ∙ ap (λ (l : List ℕ). l ∷ []) (sym e) }
-    where
-      past : (l : List ℕ) (n : ℕ) → length l ≤ n → drop n l ≡ []
-      past l n h = drop_of_length-le l h
 
   module _ {at : ℕ} (h : Scanned s end at) (some : 0 < at) where
     long : length u ≡ end

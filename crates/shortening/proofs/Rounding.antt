@@ -6,7 +6,7 @@ use Prim.Native.Nat.{ℕ, zero, suc, ◌≤◌, ◌<◌}
 use native.Mathlib.Omega.{arith}
 use lib.Dec.{eqb}
 use lib.ListN.{length, take, drop, length-append, length-take, length-drop, take-append-drop}
-use lib.Seq.{length-take-le, take_all, take-take, take_at, drop_at, take-append-le, drop-append-le, drop-length}
+use lib.Seq.{length-take-le, take-take, take_at, drop_at, take-append-le, drop-append-le, drop-length, take-length}
 use borrow.Author.Tests.{eq-eqb, ne_eqb}
 use Rattle.lists.specs.Lists.{joined}
 use Rattle.language.specs.Limits as limit
@@ -30,16 +30,13 @@ pub record Trying (d : List ℕ) (size left number : ℕ) (r : List (List ℕ)) 
   pub kept : drop left (take size d) ≡ joined after
   pub leads : round limit.table number after (reverse (lines (take left d))) ≡ r
 
-all_of : (d : List ℕ) → take (length d) d ≡ d
-all_of d = take_all (length d) d (omega arith)
-
 round-begin : (d : List ℕ) (number : ℕ) → Trying d (length d) (length d) number (round_of limit.table number (lines d))
 round-begin d number = record {
   upto = omega arith;
   within = omega arith;
   after = [];
-  kept = ap (drop (length d)) (all_of d) ∙ drop-length d;
-  leads = ap (λ (x : List ℕ). round limit.table number [] (reverse (lines x))) (all_of d);
+  kept = ap (drop (length d)) (take-length d) ∙ drop-length d;
+  leads = ap (λ (x : List ℕ). round limit.table number [] (reverse (lines x))) (take-length d);
 }
 
 -- what stands at the front of a row stands there with other bytes behind it
@@ -111,11 +108,8 @@ module _ {d : List ℕ} {size left number : ℕ} {r : List (List ℕ)} (t : Tryi
   line-and-rest : drop from p ≡ line ++ drop left p
   line-and-rest =
       ap (drop from) (sym (take-append-drop left p))
-      ∙ drop-front (take left p) (drop left p) from (omega (arith, length-take-le left p (omega (arith, long, t.upto)), l.below))
+      ∙ drop-append-le from (take left p) (drop left p) (omega (arith, length-take-le left p (omega (arith, long, t.upto)), l.below))
       ∙ ap (λ (x : List ℕ). drop from x ++ drop left p) (sym front_of)
-    where
-      drop-front : (xs ys : List ℕ) (n : ℕ) → n ≤ length xs → drop n (xs ++ ys) ≡ drop n xs ++ ys
-      drop-front xs ys n k = drop-append-le n xs ys k
 
   same_rest : (b : Bool) → drop from (left_text b) ≡ joined (cond b t.after (line ∷ t.after))
   same_rest true = drop_at (take from p) (drop left p) from long-from ∙ t.kept
@@ -198,8 +192,8 @@ rounds-begin : (d : List ℕ) (number : ℕ) → Going d (length d) number (roun
 rounds-begin d number = record {
   within = omega arith;
   fuel = length (lines d);
-  enough = omega (arith, ap (λ (x : List ℕ). length (lines x)) (all_of d));
-  leads = ap (λ (x : List ℕ). rounds limit.table (length (lines d)) number (lines x)) (all_of d);
+  enough = omega (arith, ap (λ (x : List ℕ). length (lines x)) (take-length d));
+  leads = ap (λ (x : List ℕ). rounds limit.table (length (lines d)) number (lines x)) (take-length d);
 }
 
 module _ {d : List ℕ} {size number : ℕ} {r : List (List ℕ)} (g : Going d size number r) {d' : List ℕ} {left : ℕ} (k : Rounded (take size d) number d' left)

@@ -26,6 +26,7 @@ fn is_refused_by(loaded: Loaded, question: Question) -> bool
 }
 
 // The place where the line begins that ends at `end`.
+// A loop: `rposition` tells its answer by the runs of `next_back`, of which std has no lemma for the items of a slice or a range.
 fn line_start(text: &[u8], end: usize) -> usize
     requires { Ending text.now end }
     ensures { LineStart text.now end result }

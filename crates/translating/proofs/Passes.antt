@@ -1,16 +1,16 @@
 -- From item to item: what is made grows, and what is still to be written shrinks.
 use mathlib.Core.Path.{◌≡◌, refl, ap, sym, subst, ◌∙◌}
-use mathlib.Core.Bool.{Bool, true, false, not, ◌&&◌, ◌||◌, true≢false, false≢true}
+use mathlib.Core.Bool.{Bool, true, false, not, ◌&&◌, ◌||◌}
 use mathlib.Core.List.{List, [], ◌∷◌, ◌++◌, append_assoc}
 use Prim.Native.Nat.{ℕ, ◌+◌, ◌-◌, ◌≤◌, ◌<◌}
 use native.Mathlib.Omega.{arith}
 use lib.ListN.{length, take, drop, length-append, length-take, length-drop}
 use lib.Seq.{take-length}
 use Rattle.std.specs.Prelude.{Option, None, Some}
-use Rattle.std.specs.Option.{is_some, option_to_list}
-use Rattle.lists.specs.Lists.{filled}
+use Rattle.std.specs.Option.{is_some}
+use Rattle.std.proofs.lemmas.Bool.{and_parts}
 use Rattle.syntax.specs.Items.{is}
-use Rattle.syntax.specs.Items.Sort.{word, colon, end}
+use Rattle.syntax.specs.Items.Sort.{word, end}
 use Rattle.syntax.specs.Statements.{is_operator}
 use Rattle.appending.specs.Appending.{Writes, Behind, Appends}
 use Rattle.appending.specs.AppendingLaws.{written_none, written-more, written-beyond, writes-more}
@@ -18,6 +18,8 @@ use Rattle.editions.specs.Convert.{respell, respelled}
 use Rattle.editions.specs.Passing.{remaining, is_awaited, awaited_after, between}
 use Rattle.editions.proofs.PassingLaws.{between-joined, between-last, remaining-all, remaining-last, item-stays, operator-turned}
 use Rattle.scanner.specs.declared.Sort.{Sort}
+use Rattle.heads.specs.Heads.{operates}
+use Rattle.heads.specs.HeadLaws.{operator_is}
 use Rattle.lexer.proofs.Finding.{one_sort, word-chars}
 use Rattle.lexer.specs.Tokens.{part, chars_of, item_of, items_from, NextToken}
 use Rattle.lexer.specs.declared.Token.{Token}
@@ -25,18 +27,6 @@ use Rattle.words.specs.Keywords.{other_word}
 use Rattle.translating.proofs.Pairs.{respell-other}
 use Rattle.translating.specs.Translating.{Reached, Passable, Passed, Passes}
 use Rattle.translating.specs.declared.Pass.{Pass}
-
--- ---- an operator has no colon
-
-pub operator-by : (t : Token) (b : Bool) → is_some t.colon ≡ not b → (not (is colon (item_of [] t)) && b) ≡ is_operator (item_of [] t)
-operator-by t b = go (is colon (item_of [] t)) b t.colon
-  where
-    go : (a b : Bool) (c : Option ℕ) → is_some c ≡ not b → (not a && b) ≡ not (a || filled (option_to_list c))
-    go true b c e = refl
-    go false true None e = refl
-    go false false None e = absurd (false≢true e)
-    go false true (Some c) e = absurd (true≢false e)
-    go false false (Some c) e = refl
 
 -- ---- at first
 
@@ -53,9 +43,8 @@ reached-none s c =
 
 -- ---- an item
 
-second : (a b : Bool) → (a && b) ≡ true → b ≡ true
-second true b e = e
-second false b e = absurd (false≢true e)
+pub item_operates : (t : Token) {b : Bool} → b ≡ operates t → b ≡ is_operator (item_of [] t)
+item_operates t e = e ∙ sym (operator_is [] t)
 
 regrouped : (m a b w r z : List ℕ) → m ++ a ++ (b ++ w ++ r ++ z) ≡ m ++ (a ++ b) ++ w ++ r ++ z
 regrouped m a b w r z = simp append_assoc
@@ -97,7 +86,7 @@ module _ {s : List ℕ} {t : Token} {p : Pass} {c : List ℕ} (h : Passable s t 
 
   module _ {w : Bool} (x : w ≡ is word (item_of s t)) (q : (p.awaited && o && w) ≡ true) where
     a_word : t.sort ≡ Some Sort.Word
-    a_word = one_sort (Some Sort.Word) t.sort (sym x ∙ second (p.awaited && o) w q)
+    a_word = one_sort (Some Sort.Word) t.sort (sym x ∙ (and_parts (p.awaited && o) w q).1)
 
     spelled : chars_of s t ≡ part s t.at t.end
     spelled = word-chars s t a_word

@@ -1,17 +1,16 @@
 // The converter: an accepted section in the other edition, "keyword by keyword, leaving labels, texts and comments".
 #![tactic(auto)]
 
-ghost use Rattle.std.specs.Prelude.{◌≡◌, [], true, ◌≤◌, ◌<◌, length};
+ghost use Rattle.std.specs.Prelude.{◌≡◌, true, ◌≤◌, ◌<◌, length};
 ghost use Rattle.appending.specs.Appending.{Writes};
 ghost use Rattle.calls.specs.Filling.{Gives};
 ghost use Rattle.editions.specs.Convert.{respelled, convert_of};
 ghost use Rattle.language.specs.Limits as limit;
-ghost use Rattle.lexer.specs.Tokens.{item_of};
-ghost use Rattle.syntax.specs.Statements.{is_operator};
 ghost use Rattle.translating.specs.Translating.{taken, Passable, Passes};
 
 use appending::append;
 use calls::{Filled, Question};
+use heads::is_operator;
 use language::Machine;
 use lexer::{Token, next_item};
 use scanner::Sort;
@@ -27,13 +26,6 @@ struct Pass {
     count: usize,
 }
 
-// Whether an item is no label and no part of one.
-fn is_operator(t: Token) -> bool
-    ensures { result ≡ is_operator (item_of [] t) }
-{
-    !t.is(Sort::Colon) & t.colon.is_none()
-}
-
 // An item: the operator that was still to come is written in the other edition, behind the bytes before it. Any other item stays. None where it does not
 // fit.
 fn passed(text: &[u8], t: Token, p: Pass, made: &mut [u8]) -> Option<Pass>
@@ -46,8 +38,7 @@ fn passed(text: &[u8], t: Token, p: Pass, made: &mut [u8]) -> Option<Pass>
         return Some(Pass {
             next: t.next,
             awaited: t.is(Sort::End) | (p.awaited & !operates),
-            from: p.from,
-            count: p.count,
+            ..p
         });
     }
     let from = p.from;

@@ -14,7 +14,7 @@ returns-then-taken-given c =
     let argsᶜ = c.args in
     let lowᶜ = c.low-given in
     let highᶜ = c.high-taken in
-    counts-many argsᶜ.coded.now.code.now argsᶜ.i argsᶜ.m lowᶜ.ensures.0 highᶜ.ensures.0 c.if-taken-given.true c.high-then-taken-given.ensures.0
+    counts-many argsᶜ.coded.now.code.now argsᶜ.i argsᶜ.m lowᶜ.ensures.0 highᶜ.ensures.0 c.if-taken-given.true (rw c.argument_cell.ensures.0 at c.high-then-taken-given.ensures.0)
 
 pub returns : goal.returns
 returns c =

@@ -2,7 +2,8 @@
 use borrow.Author.Rules.{rules}
 use native.Mathlib.Omega.{arith}
 use Rattle.std.proofs.Common.{ap, sym, ◌∙◌, ◌≡◌, cond, eqb, ◌+◌, ℕ}
-use Rattle.macro_changes.proofs.Calling.{one_most, ends-at_end, ends-at-none, ends-at-close}
+use Rattle.lists.specs.BoolLaws.{sign-most}
+use Rattle.macro_changes.proofs.Calling.{ends-at_end, ends-at-none, ends-at-close}
 use Rattle.macro_changes.proofs.end_of_call.Goals as goal
 
 pub returns-in_default : goal.returns-in_default
@@ -12,7 +13,7 @@ pub overflow_add-result : goal.overflow_add-result
 overflow_add-result c =
     let h = (c.next_element.ensures.some _ c.in-Some.is).held in
     let k : c.from.result ≡ cond (eqb c.in-Some.t.byte 59) 1 0 = search rules in
-    omega (arith, k, one_most (eqb c.in-Some.t.byte 59), h.own, h.ends, h.small)
+    omega (arith, k, sign-most (eqb c.in-Some.t.byte 59), h.own, h.ends, h.small)
 
 pub returns-then-is : goal.returns-then-is
 returns-then-is c =

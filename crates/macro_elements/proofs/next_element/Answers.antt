@@ -24,7 +24,7 @@ text_end-requires c =
 pub returns-in-Word : goal.returns-in-Word
 returns-in-Word c =
     rw (c.in-Word.is, c.unwrap_or.ensures)
-    (word-next c.requires c.item_at-t.ensures (c.in_ok-sort.was ∙ ap Some c.in-Word.is) _ c.byte_at-byte.ensures _ c.joined_end-joined.ensures.joins c.joined_end-joined.ensures.some)
+    (word-next c.requires c.item_at-t.ensures (c.in_ok-sort.was ∙ ap Some c.in-Word.is) _ c.byte_at-byte.ensures _ c.joined_end-joined.ensures)
 
 pub returns-in-Text : goal.returns-in-Text
 returns-in-Text c =

@@ -17,10 +17,10 @@ decreases-expand_body l = l.at.left
 abbrev pub invariant-loop-paused : goal.invariant-loop-paused
 invariant-loop-paused l =
     (u : Writing) × Wrote u l.initial.paused.state l.paused.state l.initial.out l.out
-    × (pause_writes l.list.listed.coded.text.now l.list.listed.coded.code.now l.list.listed.firsts.now (length l.list.listed.firsts.now) l.initial.memory.calls l.at.left (low l.list.listed.coded.code.now (l.at.cell + 1)) l.initial.paused.call
-    ≡ followed_by u (pause_writes l.list.listed.coded.text.now l.list.listed.coded.code.now l.list.listed.firsts.now (length l.list.listed.firsts.now) l.initial.memory.calls l.at.left (low l.list.listed.coded.code.now (l.at.cell + 1)) l.paused.call))
+    × (pause_writes l.list.hinted.listed.coded.text.now l.list.hinted.listed.coded.code.now l.list.hinted.listed.firsts.now (length l.list.hinted.listed.firsts.now) l.initial.memory.calls l.at.left (low l.list.hinted.listed.coded.code.now (l.at.cell + 1)) l.initial.paused.call
+    ≡ followed_by u (pause_writes l.list.hinted.listed.coded.text.now l.list.hinted.listed.coded.code.now l.list.hinted.listed.firsts.now (length l.list.hinted.listed.firsts.now) l.initial.memory.calls l.at.left (low l.list.hinted.listed.coded.code.now (l.at.cell + 1)) l.paused.call))
     × (take (levels - l.at.left) l.memory.calls ≡ take (levels - l.at.left) l.initial.memory.calls)
-    × ((x : Pause) → l.paused.call ≡ Some x → Stops l.list.listed.coded.code.now l.at.left x) × Remembers l.list.listed.coded.text.now l.list.listed.coded.code.now l.list.listed.firsts.now (length l.list.listed.firsts.now) l.memory.slots l.paused.state
+    × ((x : Pause) → l.paused.call ≡ Some x → Stops l.list.hinted.listed.coded.code.now l.at.left x) × Remembers l.list.hinted.listed.coded.text.now l.list.hinted.listed.coded.code.now l.list.hinted.listed.firsts.now (length l.list.hinted.listed.firsts.now) l.memory.slots l.paused.state
 
 abbrev pub decreases-loop-paused : goal.decreases-loop-paused
 decreases-loop-paused l = changes_left l.paused.call

@@ -10,7 +10,7 @@ use Rattle.macro_expansion.proofs.find_written.Goals as goal
 
 pub returns-in_err-n : goal.returns-in_err-n
 returns-in_err-n c =
-    let l = c.args.list.now.listed in
+    let l = c.args.list.now.hinted.listed in
     let x = c.args.around.now in
     let w = filled_in (arguments_in x.coded.text.now x.coded.code.now x.calls.now x.depth) (given_in x.coded.text.now x.coded.code.now (c.args.cell + 2)) in
     let k = rw c.nothing.ensures at c.write_given-written.ensures in

@@ -6,47 +6,47 @@ use Rattle.macro_expansion.proofs.meet_call.Goals as goal
 
 pub returns-in_default : goal.returns-in_default
 returns-in_default c = let a = c.args in
-    judge-unknown a.list.now.listed.coded.text.now a.list.now.listed.coded.code.now a.list.now.listed.firsts.now (length a.list.now.listed.firsts.now) a.memory.now.calls a.at.left a.at.cell a.v c.requires.2
+    judge-unknown a.list.now.hinted.listed.coded.text.now a.list.now.hinted.listed.coded.code.now a.list.now.hinted.listed.firsts.now (length a.list.now.hinted.listed.firsts.now) a.memory.now.calls a.at.left a.at.cell a.v c.requires.2
     (sym c.in_default.ensures.once_is) c.stay.result _ c.high-place.result c.stay.ensures.0 c.stay.ensures.1 c.high-place.ensures.0 (refl, refl, c.lower.ensures, refl)
 
 pub returns-then-is_some : goal.returns-then-is_some
 returns-then-is_some c = let a = c.args in
-    judge-uneven a.list.now.listed.coded.text.now a.list.now.listed.coded.code.now a.list.now.listed.firsts.now (length a.list.now.listed.firsts.now) a.memory.now.calls a.at.left a.at.cell a.v c.requires.2
-    a.list.now.quiet.now a.list.now.loose.now a.list.now.singles.now a.list.now.known c.requires.1 c.in-Some.k c.first_cell-body.result c.in-Some.ensures.only c.first_cell-body.ensures.0
-    c.count_fault-uneven.result (c.count_fault-uneven.ensures.is a.list.now.listed.coded.text.now)
+    judge-uneven a.list.now.hinted.listed.coded.text.now a.list.now.hinted.listed.coded.code.now a.list.now.hinted.listed.firsts.now (length a.list.now.hinted.listed.firsts.now) a.memory.now.calls a.at.left a.at.cell a.v c.requires.2
+    a.list.now.quiet.now a.list.now.loose.now a.list.now.hinted.singles.now a.list.now.known c.requires.1 c.in-Some.k c.first_cell-body.result c.in-Some.ensures.only c.first_cell-body.ensures.0
+    c.count_fault-uneven.result (c.count_fault-uneven.ensures.is a.list.now.hinted.listed.coded.text.now)
     (sym c.is_some.ensures ∙ c.if-is_some.true) c.stay-then-is_some.result _ c.stay-then-is_some.ensures.0 c.stay-then-is_some.ensures.1 (refl, refl, refl, c.lower-then-is_some.ensures)
 
 pub returns-then-at-eq0 : goal.returns-then-at-eq0
 returns-then-at-eq0 c = let a = c.args in
-    judge-deep a.list.now.listed.coded.text.now a.list.now.listed.coded.code.now a.list.now.listed.firsts.now (length a.list.now.listed.firsts.now) a.memory.now.calls a.at.left a.at.cell a.v c.requires.2
-    a.list.now.quiet.now a.list.now.loose.now a.list.now.singles.now a.list.now.known c.requires.1 c.in-Some.k c.first_cell-body.result c.in-Some.ensures.only c.first_cell-body.ensures.0
-    c.count_fault-uneven.result (c.count_fault-uneven.ensures.is a.list.now.listed.coded.text.now)
+    judge-deep a.list.now.hinted.listed.coded.text.now a.list.now.hinted.listed.coded.code.now a.list.now.hinted.listed.firsts.now (length a.list.now.hinted.listed.firsts.now) a.memory.now.calls a.at.left a.at.cell a.v c.requires.2
+    a.list.now.quiet.now a.list.now.loose.now a.list.now.hinted.singles.now a.list.now.known c.requires.1 c.in-Some.k c.first_cell-body.result c.in-Some.ensures.only c.first_cell-body.ensures.0
+    c.count_fault-uneven.result (c.count_fault-uneven.ensures.is a.list.now.hinted.listed.coded.text.now)
     (sym c.is_some.ensures ∙ c.if-is_some.false) c.if-at-eq0.true c.stay-then-at-eq0.result _ c.stay-then-at-eq0.ensures.0 c.stay-then-at-eq0.ensures.1 (refl, refl, refl)
 
 pub returns-then-quiet_height-at : goal.returns-then-quiet_height-at
 returns-then-quiet_height-at c = let a = c.args in
-    judge-quiet a.list.now.listed.coded.text.now a.list.now.listed.coded.code.now a.list.now.listed.firsts.now (length a.list.now.listed.firsts.now) a.memory.now.calls a.at.left a.at.cell a.v c.requires.2
-    a.list.now.quiet.now a.list.now.loose.now a.list.now.singles.now a.list.now.known c.requires.1 c.in-Some.k c.first_cell-body.result c.in-Some.ensures.only c.first_cell-body.ensures.0
-    c.count_fault-uneven.result (c.count_fault-uneven.ensures.is a.list.now.listed.coded.text.now)
+    judge-quiet a.list.now.hinted.listed.coded.text.now a.list.now.hinted.listed.coded.code.now a.list.now.hinted.listed.firsts.now (length a.list.now.hinted.listed.firsts.now) a.memory.now.calls a.at.left a.at.cell a.v c.requires.2
+    a.list.now.quiet.now a.list.now.loose.now a.list.now.hinted.singles.now a.list.now.known c.requires.1 c.in-Some.k c.first_cell-body.result c.in-Some.ensures.only c.first_cell-body.ensures.0
+    c.count_fault-uneven.result (c.count_fault-uneven.ensures.is a.list.now.hinted.listed.coded.text.now)
     (sym c.is_some.ensures ∙ c.if-is_some.false) c.if-at-eq0.false (rw c.quiet_height.ensures at c.if-quiet_height-at.true) c.stay-then-quiet_height-at.result c.stay-then-quiet_height-at.ensures.0 c.stay-then-quiet_height-at.ensures.1
 
 pub returns-then-is_settled : goal.returns-then-is_settled
 returns-then-is_settled c = let a = c.args in
-    judge-settled a.list.now.listed.coded.text.now a.list.now.listed.coded.code.now a.list.now.listed.firsts.now (length a.list.now.listed.firsts.now) a.memory.now.calls a.at.left a.at.cell a.v c.requires.2
-    a.list.now.quiet.now a.list.now.loose.now a.list.now.singles.now a.list.now.known c.requires.1 c.in-Some.k c.first_cell-body.result c.in-Some.ensures.only c.first_cell-body.ensures.0
-    c.count_fault-uneven.result (c.count_fault-uneven.ensures.is a.list.now.listed.coded.text.now)
+    judge-settled a.list.now.hinted.listed.coded.text.now a.list.now.hinted.listed.coded.code.now a.list.now.hinted.listed.firsts.now (length a.list.now.hinted.listed.firsts.now) a.memory.now.calls a.at.left a.at.cell a.v c.requires.2
+    a.list.now.quiet.now a.list.now.loose.now a.list.now.hinted.singles.now a.list.now.known c.requires.1 c.in-Some.k c.first_cell-body.result c.in-Some.ensures.only c.first_cell-body.ensures.0
+    c.count_fault-uneven.result (c.count_fault-uneven.ensures.is a.list.now.hinted.listed.coded.text.now)
     (sym c.is_some.ensures ∙ c.if-is_some.false) c.if-at-eq0.false (sym c.is_settled.ensures ∙ c.if-is_settled.true) c.stay-then-is_settled.result c.stay-then-is_settled.ensures.0 c.stay-then-is_settled.ensures.1
 
 pub returns-then-is_done : goal.returns-then-is_done
 returns-then-is_done c = let a = c.args in
-    judge-found a.list.now.listed.coded.text.now a.list.now.listed.coded.code.now a.list.now.listed.firsts.now (length a.list.now.listed.firsts.now) a.memory.now.calls a.at.left a.at.cell a.v c.requires.2
-    a.list.now.quiet.now a.list.now.loose.now a.list.now.singles.now a.list.now.known c.requires.1 c.in-Some.k c.first_cell-body.result c.in-Some.ensures.only c.first_cell-body.ensures.0
-    c.count_fault-uneven.result (c.count_fault-uneven.ensures.is a.list.now.listed.coded.text.now)
+    judge-found a.list.now.hinted.listed.coded.text.now a.list.now.hinted.listed.coded.code.now a.list.now.hinted.listed.firsts.now (length a.list.now.hinted.listed.firsts.now) a.memory.now.calls a.at.left a.at.cell a.v c.requires.2
+    a.list.now.quiet.now a.list.now.loose.now a.list.now.hinted.singles.now a.list.now.known c.requires.1 c.in-Some.k c.first_cell-body.result c.in-Some.ensures.only c.first_cell-body.ensures.0
+    c.count_fault-uneven.result (c.count_fault-uneven.ensures.is a.list.now.hinted.listed.coded.text.now)
     (sym c.is_some.ensures ∙ c.if-is_some.false) c.if-at-eq0.false a.memory.now.slots (c.is_done.ensures c.if-is_done.true) c.requires.3 c.stay-then-is_done.result c.stay-then-is_done.ensures.0 c.stay-then-is_done.ensures.1
 
 pub returns : goal.returns
 returns c = let a = c.args in
-    judge-enters a.list.now.listed.coded.text.now a.list.now.listed.coded.code.now a.list.now.listed.firsts.now (length a.list.now.listed.firsts.now) a.memory.now.calls a.at.left a.at.cell a.v c.requires.2
-    a.list.now.quiet.now a.list.now.loose.now a.list.now.singles.now a.list.now.known c.requires.1 c.in-Some.k c.first_cell-body.result c.in-Some.ensures.only c.first_cell-body.ensures.0
-    c.count_fault-uneven.result (c.count_fault-uneven.ensures.is a.list.now.listed.coded.text.now)
+    judge-enters a.list.now.hinted.listed.coded.text.now a.list.now.hinted.listed.coded.code.now a.list.now.hinted.listed.firsts.now (length a.list.now.hinted.listed.firsts.now) a.memory.now.calls a.at.left a.at.cell a.v c.requires.2
+    a.list.now.quiet.now a.list.now.loose.now a.list.now.hinted.singles.now a.list.now.known c.requires.1 c.in-Some.k c.first_cell-body.result c.in-Some.ensures.only c.first_cell-body.ensures.0
+    c.count_fault-uneven.result (c.count_fault-uneven.ensures.is a.list.now.hinted.listed.coded.text.now)
     (sym c.is_some.ensures ∙ c.if-is_some.false) c.if-at-eq0.false c.first_cell-body.ensures.1 _ refl refl

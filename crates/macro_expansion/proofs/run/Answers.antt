@@ -13,7 +13,7 @@ loop-cell-init c = (just [], wrote_none _ _ c.requires.1.count, sym (none-follow
 pub meet-step-requires : goal.meet-step-requires
 meet-step-requires c =
     let a = c.args in
-    let x = a.list.now.listed in
+    let x = a.list.now.hinted.listed in
     let l = c.loop-cell in
     let p = c.requires.1 in
     let k = c.append-kept in (
@@ -29,7 +29,7 @@ meet-step-requires c =
 pub returns-in-Some-call : goal.returns-in-Some-call
 returns-in-Some-call c =
     let a = c.args in
-    let x = a.list.now.listed in
+    let x = a.list.now.hinted.listed in
     let l = c.loop-cell in
     let m = c.meet-step.ensures in
     run-pauses x.coded.text.now x.coded.code.now x.firsts.now (length x.firsts.now) a.memory.now.calls a.rest.left a.rest.stop _ l.invariant.0 _ _ _ _ _ _ _ _ l.place l.changes l.invariant.4
@@ -39,7 +39,7 @@ returns-in-Some-call c =
 pub loop-cell-preserved : goal.loop-cell-preserved
 loop-cell-preserved c =
     let a = c.args in
-    let x = a.list.now.listed in
+    let x = a.list.now.hinted.listed in
     let l = c.loop-cell in
     let g = c.in-Some.ensures.steps in
     let t = run-turn x.coded.text.now x.coded.code.now x.firsts.now (length x.firsts.now) a.memory.now.calls a.rest.left a.rest.stop _ l.invariant.0 _ _ _ _ _ _ _ _ l.place l.changes l.invariant.4
@@ -49,7 +49,7 @@ loop-cell-preserved c =
 pub returns : goal.returns
 returns c =
     let a = c.args in
-    let x = a.list.now.listed in
+    let x = a.list.now.hinted.listed in
     let l = c.loop-cell in
     run_ends x.coded.text.now x.coded.code.now x.firsts.now (length x.firsts.now) a.memory.now.calls a.rest.left a.rest.stop _ l.invariant.0 _ _ _ l.w _ _ _ [] l.place l.changes l.invariant.4
     l.invariant.1 l.invariant.2 _ _ c.in_default.ensures.steps.0 c.append.ensures refl refl

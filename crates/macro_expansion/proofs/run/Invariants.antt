@@ -8,9 +8,9 @@ use Rattle.macro_expansion.proofs.run.Given as goal
 
 abbrev pub invariant-loop-cell : goal.invariant-loop-cell
 invariant-loop-cell l =
-    let s = l.list.listed.coded.text.now in
-    let c = l.list.listed.coded.code.now in
-    let f = l.list.listed.firsts.now in
+    let s = l.list.hinted.listed.coded.text.now in
+    let c = l.list.hinted.listed.coded.code.now in
+    let f = l.list.hinted.listed.firsts.now in
     (u : Writing) × Wrote u l.initial.w l.w l.initial.out l.out
     × (rest_writes s c f (length f) l.memory.calls l.rest.left l.rest.place l.rest.stop l.rest.changes.cell l.rest.changes.left
     ≡ followed_by u (rest_writes s c f (length f) l.memory.calls l.rest.left l.place l.rest.stop l.changes.cell l.changes.left))

@@ -9,7 +9,7 @@ pub returns-in_default : goal.returns-in_default
 returns-in_default c =
     let a = c.args in
     let k = c.meet-step.ensures.passed c.in_default.is in
-    (k, remembers-stays a.list.now.listed.coded.text.now a.list.now.listed.coded.code.now a.list.now.listed.firsts.now (length a.list.now.listed.firsts.now) a.memory.now.slots _ a.v c.meet-step.result.state _ _ c.requires.1.remembers k)
+    (k, remembers-stays a.list.now.hinted.listed.coded.text.now a.list.now.hinted.listed.coded.code.now a.list.now.hinted.listed.firsts.now (length a.list.now.hinted.listed.firsts.now) a.memory.now.slots _ a.v c.meet-step.result.state _ _ c.requires.1.remembers k)
 
 pub overflow_sub-left : goal.overflow_sub-left
 overflow_sub-left c = (c.meet-step.ensures.enters _ c.in-Some.is).deeper
@@ -31,7 +31,7 @@ expand_body-requires c =
       record {
         most = omega (arith, p.most);
         count = omega (arith, k.most, k.size);
-        remembers = rw c.keep_call.ensures.2 (remembers-stays a.list.now.listed.coded.text.now a.list.now.listed.coded.code.now a.list.now.listed.firsts.now (length a.list.now.listed.firsts.now) a.memory.now.slots _ a.v c.meet-step.result.state _ _ p.remembers k);
+        remembers = rw c.keep_call.ensures.2 (remembers-stays a.list.now.hinted.listed.coded.text.now a.list.now.hinted.listed.coded.code.now a.list.now.hinted.listed.firsts.now (length a.list.now.hinted.listed.firsts.now) a.memory.now.slots _ a.v c.meet-step.result.state _ _ p.remembers k);
       },
     )
 
@@ -40,7 +40,7 @@ returns c =
     let a = c.args in
     let p = c.requires.1 in
     let e = c.meet-step.ensures.enters _ c.in-Some.is in (
-      change-enters a.list.now.listed.coded.text.now a.list.now.listed.coded.code.now a.list.now.listed.firsts.now (length a.list.now.listed.firsts.now) a.memory.now.calls _ _ a.at.left a.at.cell c.in-Some.body a.v c.meet-step.result.state
+      change-enters a.list.now.hinted.listed.coded.text.now a.list.now.hinted.listed.coded.code.now a.list.now.hinted.listed.firsts.now (length a.list.now.hinted.listed.firsts.now) a.memory.now.calls _ _ a.at.left a.at.cell c.in-Some.body a.v c.meet-step.result.state
           c.expand_body.result _ _ _ p.most c.keep_call.ensures.1 c.keep_call.ensures.0 e (c.meet-step.ensures.waits _ c.in-Some.is) c.expand_body.ensures,
       c.expand_body.ensures.remembers,
     )

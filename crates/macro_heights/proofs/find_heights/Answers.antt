@@ -9,11 +9,11 @@ use Rattle.macro_heights.proofs.find_heights.Goals as goal
 pub settle_level-requires : goal.settle_level-requires
 settle_level-requires c κs within = let a = c.args in (
   search (⊑_meet, ⊑_static, within.0, within.1.0) depth 30,
-  (search rules, (c.loop-level.invariant.0, (quiet_climbs a.list.now.coded.text.now a.list.now.coded.code.now a.list.now.firsts.now (length a.list.now.firsts.now), (grind serving, search (rules, quiet_found))))),
+  (search rules, (c.loop-level.invariant.0, (quiet_climbs a.macros.now.listed.coded.text.now a.macros.now.listed.coded.code.now a.macros.now.listed.firsts.now (length a.macros.now.listed.firsts.now), (grind serving, search (rules, quiet_found))))),
 )
 
 pub settle_level-requires-in-loop-level : goal.settle_level-requires-in-loop-level
 settle_level-requires-in-loop-level c κs within = let a = c.args in (
   search (⊑_meet, ⊑_static, within.0, within.1.0) depth 30,
-  (search rules, (c.loop-level.invariant.1, (loose_climbs a.list.now.coded.text.now a.list.now.coded.code.now a.list.now.firsts.now (length a.list.now.firsts.now), (grind serving, search (rules, loose_found))))),
+  (search rules, (c.loop-level.invariant.1, (loose_climbs a.macros.now.listed.coded.text.now a.macros.now.listed.coded.code.now a.macros.now.listed.firsts.now (length a.macros.now.listed.firsts.now), (grind serving, search (rules, loose_found))))),
 )

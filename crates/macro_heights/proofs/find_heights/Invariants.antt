@@ -4,10 +4,10 @@ use lib.ListN.{length}
 use Rattle.macro_heights.proofs.find_heights.Given as goal
 
 abbrev pub ghost-settle_level : goal.ghost-settle_level
-ghost-settle_level a = let l = a.height_of.0.now.list in quiet_table l.coded.text.now l.coded.code.now l.firsts.now (length l.firsts.now)
+ghost-settle_level a = let l = a.height_of.0.now.listed in quiet_table l.coded.text.now l.coded.code.now l.firsts.now (length l.firsts.now)
 
 abbrev pub ghost-settle_level-2 : goal.ghost-settle_level-2
-ghost-settle_level-2 a = let l = a.height_of.0.now.list in loose_table l.coded.text.now l.coded.code.now l.firsts.now (length l.firsts.now)
+ghost-settle_level-2 a = let l = a.height_of.0.now.listed in loose_table l.coded.text.now l.coded.code.now l.firsts.now (length l.firsts.now)
 
 abbrev pub invariant-loop-level : goal.invariant-loop-level
-invariant-loop-level l = UpTo (quiet_table l.list.coded.text.now l.list.coded.code.now l.list.firsts.now (length l.list.firsts.now)) (length l.list.firsts.now) l.level l.quiet × UpTo (loose_table l.list.coded.text.now l.list.coded.code.now l.list.firsts.now (length l.list.firsts.now)) (length l.list.firsts.now) l.level l.loose
+invariant-loop-level l = UpTo (quiet_table l.macros.listed.coded.text.now l.macros.listed.coded.code.now l.macros.listed.firsts.now (length l.macros.listed.firsts.now)) (length l.macros.listed.firsts.now) l.level l.quiet × UpTo (loose_table l.macros.listed.coded.text.now l.macros.listed.coded.code.now l.macros.listed.firsts.now (length l.macros.listed.firsts.now)) (length l.macros.listed.firsts.now) l.level l.loose

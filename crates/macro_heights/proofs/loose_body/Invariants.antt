@@ -5,5 +5,5 @@ use Rattle.macro_heights.proofs.loose_body.Given as goal
 
 abbrev pub invariant-loop-i : goal.invariant-loop-i
 invariant-loop-i l =
-    let x = l.macros.list in
+    let x = l.macros.listed in
     (place : _) × LooseRest x.coded.text.now x.coded.code.now x.firsts.now (length x.firsts.now) l.loose l.q place l.i-iterator l.height

@@ -1,7 +1,5 @@
 -- `macro_marks::is_parameter` meets its contract.
 use mathlib.Core.Path.{refl}
-use native.Mathlib.Omega.{arith}
-use Rattle.macro_marks.specs.ItemLaws.{further}
 use Rattle.macro_marks.proofs.is_parameter.Goals.{else-named-via-then-named+else-is_word, else-named-via-else-named}
 use Rattle.macro_marks.proofs.Comparing.{comparing-first, compared-none, compared-end, compared_same, comparing-on}
 use Rattle.macro_marks.proofs.is_parameter.Goals as goal
@@ -21,9 +19,6 @@ pub returns-then-is_word : goal.returns-then-is_word
 returns-then-is_word c =
     let k = c.next_item.ensures.some _ c.in-Some.is in
     compared_same c.loop-t.invariant k.found k.there c.byte_at.ensures c.is_mark.ensures c.if-is_mark.false c.is_word.ensures (rw (c.if-named.true, c.if-is_word.true) refl)
-
-pub loop-t-smaller : goal.loop-t-smaller
-loop-t-smaller c = let k = c.next_item.ensures.some _ c.in-Some.is in omega (arith, further k.found k.there, k.found.stands.most)
 
 pub loop-t-preserved : goal.loop-t-preserved
 loop-t-preserved c = let k = c.next_item.ensures.some _ c.in-Some.is in

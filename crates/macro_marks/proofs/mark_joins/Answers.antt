@@ -23,9 +23,6 @@ loop-t-preserved-in-Some-joined c =
     let k = c.next_item.ensures.some _ c.in-Some.is in
     marking-joined c.loop-t.invariant k.found k.there c.joined-joined.ensures c.byte_at.ensures c.part_behind-p.ensures c.in-Some-joined.is
 
-pub loop-t-smaller : goal.loop-t-smaller
-loop-t-smaller c = let k = c.next_item.ensures.some _ c.in-Some.is in omega (arith, further k.found k.there, k.found.stands.most)
-
 pub loop-t-preserved : goal.loop-t-preserved
 loop-t-preserved c =
     let k = c.next_item.ensures.some _ c.in-Some.is in

@@ -1,7 +1,7 @@
 -- `macro_preparing::answered` meets its contract.
 use Rattle.std.proofs.Common.{arith}
-use Rattle.macro_preparing.proofs.Filling.{line-few}
+use Rattle.macros.proofs.LineLaws.{line-high}
 use Rattle.macro_preparing.proofs.answered.Goals as goal
 
-pub overflow_cast-result : goal.overflow_cast-result
-overflow_cast-result c = omega (arith, c.line_of.ensures, line-few c.args.text.now c.in-Err.r.at, c.requires)
+pub map_err-requires : goal.map_err-requires
+map_err-requires c = λ e z. ((λ κs l x g u v. c.requires), (λ κs l x g u y. omega (arith, y.ensures, line-high c.args.text.now e.at, c.requires)))

@@ -1,8 +1,6 @@
 -- `macro_questions::ask_whole` meets its contract.
-use native.Mathlib.Omega.{arith}
 use mathlib.Core.Path.{◌∙◌, ap}
 use Rattle.lexer.specs.declared.Token.{Token}
-use Rattle.macro_marks.specs.ItemLaws.{further}
 use Rattle.statements.specs.Checks.{token_verdict}
 use Rattle.statements.specs.Faults.{worse}
 use Rattle.macro_questions.proofs.Asking.{asking-first, all_asked, asking-on}
@@ -10,9 +8,6 @@ use Rattle.macro_questions.proofs.ask_whole.Goals as goal
 
 pub loop-t-init : goal.loop-t-init
 loop-t-init c = asking-first
-
-pub loop-t-smaller : goal.loop-t-smaller
-loop-t-smaller c = let k = c.next_item.ensures.some _ c.in-Some.is in omega (arith, further k.found k.there, k.found.stands.most)
 
 pub loop-t-preserved : goal.loop-t-preserved
 loop-t-preserved c =

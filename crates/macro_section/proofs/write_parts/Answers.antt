@@ -9,7 +9,7 @@ use Rattle.macro_section.proofs.write_parts.Goals as goal
 pub loop-cell-init : goal.loop-cell-init
 loop-cell-init c =
     let a = c.args in
-    let x = a.list.now.listed in
+    let x = a.list.now.hinted.listed in
     let f = x.firsts.now in
     let starts = rw (sym c.into_iter-cell-iterator.ensures.into_iter_gives) at c.changes-cell-items.ensures in (
       [],
@@ -26,7 +26,7 @@ loop-cell-init c =
 pub loop-cell-preserved : goal.loop-cell-preserved
 loop-cell-preserved c =
     let a = c.args in
-    let x = a.list.now.listed in
+    let x = a.list.now.hinted.listed in
     let f = x.firsts.now in
     let l = c.loop-cell in
     let i = l.invariant in
@@ -50,7 +50,7 @@ loop-cell-preserved c =
 pub returns : goal.returns
 returns c =
     let a = c.args in
-    let x = a.list.now.listed in
+    let x = a.list.now.hinted.listed in
     let f = x.firsts.now in
     let l = c.loop-cell in
     let done = c.in-None.ensures.steps.0 in

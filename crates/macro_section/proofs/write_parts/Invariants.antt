@@ -12,9 +12,9 @@ use Rattle.macro_section.proofs.write_parts.Given as goal
 
 abbrev pub invariant-loop-cell : goal.invariant-loop-cell
 invariant-loop-cell l =
-    let s = l.list.listed.coded.text.now in
-    let c = l.list.listed.coded.code.now in
-    let f = l.list.listed.firsts.now in
+    let s = l.list.hinted.listed.coded.text.now in
+    let c = l.list.hinted.listed.coded.code.now in
+    let f = l.list.hinted.listed.firsts.now in
     let ms = macros_in s c f (length f) in
     let left = l.cell-iterator in
     (from : List ℕ)

@@ -17,7 +17,7 @@ returns-then-k-low c =
       argument-told a.coded.code.now a.calls.now c.args.d c.args.k c.cell_at-call.result c.low.result p (rw e at c.cell_at-call.ensures.0) c.low.ensures.0 ∙ lt-ltb _ _ c.if-k-low.true,
       p,
       c.argument_cell.ensures.0 ∙ ap (λ (i : ℕ). argument_cell i c.args.k) (rw e at c.cell_at-call.ensures.0),
-      c.argument_cell.ensures.1,
+      omega (arith, c.argument_cell.ensures.1, c.cell_at-call.ensures.1),
     )
 
 pub returns : goal.returns

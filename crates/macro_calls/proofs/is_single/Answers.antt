@@ -1,9 +1,0 @@
--- `macro_calls::is_single` meets its contract.
-use Rattle.std.proofs.Common.{arith, rules}
-use borrow.Author.Tests.{eq-eqb}
-use Rattle.macro_calls.proofs.Seeking.{hinted}
-use Rattle.macro_calls.proofs.is_single.Goals as goal
-
-pub returns-then-unwrap_or-eq1 : goal.returns-then-unwrap_or-eq1
-returns-then-unwrap_or-eq1 c = let x = c.args.list.now in
-    λ z. hinted x.coded.text.now x.coded.code.now x.firsts.now c.args.name.now c.requires c.args.hint (omega (arith, c.in-Some.ensures)) (eq-eqb _ 1 (search rules)) (search rules) c.has_name.ensures z
