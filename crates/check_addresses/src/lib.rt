@@ -32,6 +32,7 @@ pub fn are_different(list: &[u32]) -> bool
 
 // Writes the addresses of the records of `b` into `list` behind the first `n`, and tells how many there are then. The memory is lent, so the count
 // stands beside it.
+#[tactic(auto, using(records::proofs::Steps::front_shorter, records::proofs::Steps::record_starts, crate::proofs::Loops::room))]
 pub fn collect(b: &[u8], list: &mut [u32], n: usize) -> usize
     requires { Collectable b.now (length list.old) n }
     ensures { Collected b.now list.old n list.new result }

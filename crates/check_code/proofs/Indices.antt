@@ -1,7 +1,8 @@
 -- An indexed letter by its place and its index.
-use Rattle.std.proofs.Common.{◌≡◌, refl, ℕ, ◌/◌, ◌%◌, ◌≤◌}
-use Rattle.std.specs.Prelude.{ltb, leb, ◌&&◌, false}
-use borrow.Author.Tests.{le-ltb}
+use Rattle.std.proofs.Common.{◌≡◌, refl, ap, ◌∙◌, cond, ℕ, ◌/◌, ◌%◌, ◌≤◌}
+use Rattle.std.specs.Prelude.{ltb, leb, ◌&&◌, ◌^◌, false}
+use borrow.Author.Tests.{lt-ltb, le-ltb}
+use Rattle.forms.specs.KindLaws.{place-small}
 use Rattle.language.specs.Letters.{indices, use_of}
 use Rattle.layout.specs.Table.{letter_place}
 use Rattle.table.specs.Denote.{letter_of}
@@ -30,3 +31,10 @@ letter_in v l e = rw (← e) (fits-by l (v % 64))
 pub letter_none : (v : ℕ) → 12 ≤ v / 64 → false ≡ letter_fits v
 unfolding letter_fits
 letter_none v h = rw (le-ltb (v / 64) 12 h)
+
+-- the set of the letter at a place, and of none
+pub form_in : {n b : ℕ} (l : Letter) → letter_place (letter_of l) ≡ n → b ≡ 2 ^ letter_place (letter_of l) → b ≡ cond (ltb n 12) (2 ^ n) 0
+form_in {n} l e h = rw (lt-ltb n 12 (rw e at (place-small (letter_of l)))) (h ∙ ap (λ k. 2 ^ k) e)
+
+pub form_none : {n : ℕ} → 12 ≤ n → 0 ≡ cond (ltb n 12) (2 ^ n) 0
+form_none {n} h = rw (le-ltb n 12 h)

@@ -11,14 +11,14 @@ ghost use Rattle.layout.specs.Places.{first_switch};
 use forms::Forms;
 use language::{Machine, Operator};
 use layout::{ArgumentKind, TablePlaces};
-use table::Table;
+use table::{Letter, Table};
 
 // Whether there is such an indexed letter.
 #[tactic(auto, using(crate::proofs::Indices::letter_in, crate::proofs::Indices::letter_none))]
 fn letter_fits(v: usize) -> bool
     ensures { result ≡ letter_fits v }
 {
-    match table::Letter::try_from(v / 64) {
+    match Letter::try_from(v / 64) {
         Ok(letter) => (0 < v % 64) & (v % 64 <= letter.reach()),
         Err(_) => false,
     }
@@ -42,13 +42,14 @@ fn arg_fits(table: Table, x: usize) -> bool
 }
 
 // The set of the letter at a place, empty where there is none.
+#[tactic(auto, using(crate::proofs::Indices::form_in, crate::proofs::Indices::form_none))]
 fn letter_form(place: usize) -> Forms
     ensures { result.bits ≡ cond (ltb place 12) (2 ^ place) 0 }
 {
-    if place < 12 {
-        return Forms::letter(place as u8);
+    match Letter::try_from(place) {
+        Ok(letter) => Forms::letter(letter),
+        Err(_) => Forms::EMPTY,
     }
-    Forms::EMPTY
 }
 
 fn switch_form(table: Table, v: usize) -> Forms
@@ -88,7 +89,7 @@ fn takes(set: Forms, op: u8, list: u8, place: u8) -> bool
 }
 
 // An instruction as its list is asked about it: its operator, and the sets of the forms of its arguments.
-#[derive(Clone, Copy)]
+#[derive(Clone, Copy, Debug, PartialEq, Eq)]
 struct Given {
     op: u8,
     first: Forms,

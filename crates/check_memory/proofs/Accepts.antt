@@ -1,13 +1,14 @@
 -- Where all tests pass, the cells are those of the state that they read as, and that state is well formed.
 use mathlib.Core.Path.{◌≡◌, refl, sym, ap, ◌∙◌, subst}
-use mathlib.Core.Bool.{Bool, true, false, cond, ◌&&◌}
+use mathlib.Core.Bool.{Bool, true, cond, ◌&&◌}
 use mathlib.Core.List.{List, [], ◌∷◌, ◌++◌, map}
-use Prim.Native.Nat.{ℕ, ◌+◌, ◌*◌, ◌≤◌}
+use Prim.Native.Nat.{ℕ, ◌+◌, ◌*◌}
 use native.Mathlib.Omega.{arith}
 use lib.Dec.{T, leb, ltb, eqb, le→leb}
 use lib.ListN.{length, get_or, drop, length-drop, take-append-drop}
 use lib.Seq.{drop-drop}
-use borrow.Author.Tests.{eq-eqb, eqb-true, eqb-false}
+use Rattle.std.proofs.Math.Facts.{yes_eqb}
+use Rattle.lists.specs.BoolLaws.{sign-again}
 use Rattle.characters.specs.Characters.{known}
 use Rattle.check_strings.proofs.ComponentWalks.{bytes_drop}
 use Rattle.check_strings.specs.Sound.{Bytes, given}
@@ -30,16 +31,6 @@ use Rattle.check_memory.proofs.Facts.{Laid, Strings, Totals, Rest}
 use Rattle.check_memory.proofs.Files.{again_records, Expressions, expressions-open, Halves, halves-open}
 use Rattle.check_memory.proofs.Readings.{vs, s, st, stack_string, known-none, exprs-long, files-long, outputs-long, outputs_is, last_is, next-is, places_is, stack_is, held-is, recorded-is, addresses_is, faults-is, strings-is, strings-are}
 use Rattle.check_memory.proofs.Wholes.{bytes-string, whole-expressions, whole-halves, over, over-expressions, over-halves}
-
-sign-is : (n : ℕ) → n ≤ 1 → cond (eqb n 1) 1 0 ≡ n
-sign-is n h = go (eqb n 1) refl
-  where
-    go : (t : Bool) → eqb n 1 ≡ t → cond t 1 0 ≡ n
-    go true e = omega (arith, eqb-true n 1 e)
-    go false e = let k = eqb-false n 1 e in omega arith
-
-same : (m n : ℕ) → m ≡ n → T (eqb m n)
-same m n e = rw (eq-eqb m n e) tt
 
 module _ (p : Program) (i j m : List ℕ) (long : length m ≡ limit.state) (b : Bytes m) (L : Laid m) (S : Strings m) (C : Totals m) (D : T (distinct m)) (R : Rest p i j m) where
   abbrev l : ℕ
@@ -68,7 +59,7 @@ module _ (p : Program) (i j m : List ℕ) (long : length m ≡ limit.state) (b :
   unfolding threes_in state_in state_by
   scalars-same =
       let ns : List ℕ = threes_in layout.scalars_count m in
-      let x0 : cond (eqb (three_at layout.plus_cell m) 1) 1 0 ≡ three_at layout.plus_cell m = sign-is (three_at layout.plus_cell m) L.sign in
+      let x0 : cond (eqb (three_at layout.plus_cell m) 1) 1 0 ≡ three_at layout.plus_cell m = sign-again (three_at layout.plus_cell m) L.sign in
       let x5 : held (λ x. 1) (st m) ≡ get_or ns 5 0 = held-is m (λ x. 1) ∙ C.parts.is ∙ sym (threes-at 8 5 m (omega arith)) in
       let x6 : held (λ x. length (chars x)) (st m) ≡ get_or ns 6 0 = held-is m (λ x. length (chars x)) ∙ C.chars.is ∙ sym (threes-at 8 6 m (omega arith)) in
       let x7 : recorded (λ r. 1) (st m) ≡ get_or ns 7 0 = recorded-is m ∙ C.records.is ∙ sym (threes-at 8 7 m (omega arith)) in
@@ -148,11 +139,11 @@ module _ (p : Program) (i j m : List ℕ) (long : length m ≡ limit.state) (b :
   unfolding good_store
   store-good =
       let last : T (leb (st m).last limit.addresses) = le→leb (st m).last limit.addresses (omega (arith, last_is m, L.last_most)) in
-      let places : T (eqb (length (st m).places) limit.inputs) = same (length (st m).places) limit.inputs (ap length (places_is m)) in
-      let end : Passed (drop 6 (store_tests ins (st m))) = (same (store_faults ins (st m).last (st m)) 0 no_faults, (addressed, (all-different, tt))) in
+      let places : T (eqb (length (st m).places) limit.inputs) = yes_eqb (ap length (places_is m)) in
+      let end : Passed (drop 6 (store_tests ins (st m))) = (yes_eqb no_faults, (addressed, (all-different, tt))) in
       parts (store_tests ins (st m)) (
-        same (length (st m).exprs) limit.expressions (exprs-long m),
-        (same (length (st m).files) limit.files (files-long m), (same (length (st m).outputs) limit.outputs (outputs-long m), (places, (limits, (last, end))))),
+        yes_eqb (exprs-long m),
+        (yes_eqb (files-long m), (yes_eqb (outputs-long m), (places, (limits, (last, end))))),
       )
 
   pub state_good : T (good_state p ins (s m))

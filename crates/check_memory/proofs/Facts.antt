@@ -5,7 +5,7 @@ use mathlib.Core.List.{List, []}
 use Prim.Native.Nat.{ℕ, ◌+◌, ◌%◌, ◌≤◌, ◌<◌}
 use lib.Dec.{T, leb, ltb, eqb, leb→le, le→leb, ltb→lt, lt→ltb, eqb→eq}
 use lib.ListN.{length, get_or, drop}
-use borrow.Author.Tests.{eq-eqb}
+use Rattle.std.proofs.Math.Facts.{yes_eqb}
 use Rattle.check_strings.specs.Sound.{sound_components, sound_records}
 use Rattle.language.specs.Limits as limit
 use Rattle.language.specs.Program.{Program}
@@ -72,11 +72,8 @@ pub record IsTotal (most told n : ℕ) : Type 0 where
 total-open : (most told n : ℕ) → T (is_total most told n) → IsTotal most told n
 total-open most told n h = record { is = eqb→eq n told (T-left (eqb n told) (leb n most) h); fits = leb→le n most (T-right (eqb n told) (leb n most) h) }
 
-same : (m n : ℕ) → m ≡ n → T (eqb m n)
-same m n e = rw (eq-eqb m n e) tt
-
 total-close : (most told n : ℕ) → IsTotal most told n → T (is_total most told n)
-total-close most told n f = T-both (eqb n told) (leb n most) (same n told f.is) (le→leb n most f.fits)
+total-close most told n f = T-both (eqb n told) (leb n most) (yes_eqb f.is) (le→leb n most f.fits)
 
 pub record Totals (m : List ℕ) : Type 0 where
   pub parts : IsTotal limit.components (three_at layout.components_cell m) (all_parts m)
@@ -170,7 +167,7 @@ module _ (p : Program) (i j m : List ℕ) where
       T-both (t0 && t1 && t2 && (t3 && t4) && (t5 && t6)) t7
       (T-both (t0 && t1 && t2 && (t3 && t4)) (t5 && t6)
       (T-both (t0 && t1 && t2) (t3 && t4)
-      (T-both (t0 && t1) t2 (T-both t0 t1 (same (length v % 2) 0 f.even) (le→leb (length v) 128 f.deep)) f.returns)
+      (T-both (t0 && t1) t2 (T-both t0 t1 (yes_eqb f.even) (le→leb (length v) 128 f.deep)) f.returns)
       (T-both t3 t4 f.output_1 f.output_2))
       (T-both t5 t6 (le→leb (three_at layout.first_place_cell m) (length i) f.place_1) (le→leb (three_at layout.second_place_cell m) (length j) f.place_2)))
       (lt→ltb (three_at layout.next_cell m) (length p.code) f.next)

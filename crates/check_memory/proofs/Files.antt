@@ -1,11 +1,11 @@
 -- The strings of expressions and files that are written as they are read: said of all of them at once, and of each.
 use mathlib.Core.Path.{◌≡◌, refl, sym, ap, ◌∙◌}
-use mathlib.Core.Bool.{Bool}
-use mathlib.Core.List.{List, [], ◌∷◌, ◌++◌, map, append_assoc}
+use mathlib.Core.List.{List, [], ◌∷◌, ◌++◌, map, append_assoc, map-append}
 use Prim.Native.Nat.{ℕ, zero, suc, ◌*◌, ◌≤◌}
 use native.Mathlib.Omega.{arith}
 use lib.Dec.{T}
 use lib.ListN.{length, take, drop}
+use Rattle.lists.specs.AppendLaws.{all_left, all_right, all_append}
 use Rattle.check_strings.proofs.ComponentWalks.{parts-open, parts-close}
 use Rattle.check_strings.proofs.RecordWalks.{rows-open, rows-close}
 use Rattle.check_strings.specs.Sound.{sound_components, given, sound_records}
@@ -17,25 +17,6 @@ use Rattle.lists.specs.ListLaws.{T-left, T-right, T-both, total-append}
 use Rattle.lists.specs.Lists.{total, all, each, head_or}
 use Rattle.machine.specs.Arguments.{records}
 use Rattle.machine.specs.WellFormed.{faults, record_faults, all_records}
-
--- ---- lists
-
-map-append : {X Y : Type 0} (f : X → Y) (xs ys : List X) → map f (xs ++ ys) ≡ map f xs ++ map f ys
-map-append f [] ys = refl
-map-append f (x ∷ xs) ys = ap (λ l. f x ∷ l) (map-append f xs ys)
-
-module _ {X : Type 0} (p : X → Bool) where
-  all_left : (xs ys : List X) → T (all p (xs ++ ys)) → T (all p xs)
-  all_left [] ys h = tt
-  all_left (x ∷ xs) ys h = T-both (p x) (all p xs) (T-left (p x) (all p (xs ++ ys)) h) (all_left xs ys (T-right (p x) (all p (xs ++ ys)) h))
-
-  all_right : (xs ys : List X) → T (all p (xs ++ ys)) → T (all p ys)
-  all_right [] ys h = h
-  all_right (x ∷ xs) ys h = all_right xs ys (T-right (p x) (all p (xs ++ ys)) h)
-
-  all_append : (xs ys : List X) → T (all p xs) → T (all p ys) → T (all p (xs ++ ys))
-  all_append [] ys h k = k
-  all_append (x ∷ xs) ys h k = T-both (p x) (all p (xs ++ ys)) (T-left (p x) (all p xs) h) (all_append xs ys (T-right (p x) (all p xs) h) k)
 
 -- ---- expressions
 

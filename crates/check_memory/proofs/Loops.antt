@@ -22,6 +22,7 @@ use Rattle.layout.specs.Components.{components_in, records_in, addresses_in}
 use Rattle.layout.specs.Places as layout
 use Rattle.lists.specs.ListLaws.{total-split}
 use Rattle.lists.specs.Lists.{total, all, each}
+use Rattle.lists.specs.SumLaws.{total-next}
 use Rattle.lists.specs.RangeLaws.{AllRan, TestsBy, all_in_range}
 use Rattle.machine.specs.Arguments.{everything}
 use Rattle.machine.specs.WellFormed.{different}
@@ -94,13 +95,6 @@ module _ {m : List ℕ} {i : ℕ} {r : List ℕ} where
 
 -- ---- sums
 
-total-next : (f : List ℕ → ℕ) (xs : List (List ℕ)) (i : ℕ) → i < length xs → total f (take (i + 1) xs) ≡ total f (take i xs) + f (get_or xs i [])
-total-next f [] i h = absurd (not-suc-le-zero h)
-total-next f (x ∷ xs) zero h = omega arith
-total-next f (x ∷ xs) (suc i) h =
-    let e : suc i + 1 ≡ suc (i + 1) = omega arith in
-    ap (λ k. total f (take k (x ∷ xs))) e ∙ omega (arith, total-next f xs i (le_of_suc-le-suc h))
-
 -- a is the sum of f over the first i strings
 pub record Adding (f : List ℕ → ℕ) (xs : List (List ℕ)) (i a : ℕ) : Type 0 where
   pub is : a ≡ total f (take i xs)
@@ -111,7 +105,7 @@ adding-none f xs = record { is = refl; most = omega arith }
 
 module _ {f : List ℕ → ℕ} {xs : List (List ℕ)} {i a : ℕ} (g : Adding f xs i a) where
   pub adding-next : i < length xs → {r : List ℕ} → r ≡ get_or xs i [] → length r < 65536 → {n : ℕ} → n ≡ f r → n ≤ length r → Adding f xs (i + 1) (a + n)
-  adding-next h {r} e k {n} q b = record { is = omega (arith, g.is, total-next f xs i h, q, ap f e); most = omega (arith, g.most) }
+  adding-next h {r} e k {n} q b = record { is = omega (arith, g.is, total-next f [] xs i h, q, ap f e); most = omega (arith, g.most) }
 
   pub adding-end : length xs ≤ i → a ≡ total f xs
   adding-end h = g.is ∙ ap (total f) (take_all i xs h)
@@ -225,7 +219,7 @@ module _ {m d : List ℕ} (c : Comparable m (length d)) {e : List ℕ} {n i : �
 
   module _ (h : i < 64) {r : List ℕ} (q : StringLent m (32 + i) r) where
     more : total (λ v. length (records_in v)) (take (i + 1) (halves m)) ≡ n + length (records_in r)
-    more = omega (arith, total-next (λ v. length (records_in v)) (halves m) i (omega (arith, length-halves m)), g.count, ap (λ v. length (records_in v)) (lent-half h q))
+    more = omega (arith, total-next (λ v. length (records_in v)) [] (halves m) i (omega (arith, length-halves m)), g.count, ap (λ v. length (records_in v)) (lent-half h q))
 
     pub gathering-room : Collectable r (length e) n
     gathering-room = record {

@@ -8,8 +8,8 @@ use lib.Dec.{T, leb, eqb, leb→le, le→leb, eqb→eq}
 use lib.ListN.{length, get_or, take, drop, replicate, length-map}
 use lib.Seq.{length-take-le, take_at, drop_at, drop-drop, drop-cons}
 use borrow.Author.Tests.{lt-leb}
+use Rattle.lists.specs.BoolLaws.{sign-most, same_test}
 use Rattle.characters.specs.Characters.{known}
-use Rattle.check_strings.proofs.ComponentWalks.{same_test}
 use Rattle.check_strings.specs.Sound.{Bytes, given}
 use Rattle.language.specs.Limits as limit
 use Rattle.language.specs.Program.{Program}
@@ -35,10 +35,6 @@ use Rattle.check_memory.proofs.Cells.{threes-at, sum-lengths, replicated-zeros}
 use Rattle.check_memory.proofs.Facts.{Laid, laid-open, laid-close, Strings, sound-open, sound-close, Totals, counted-open, counted-close, Rest, fitting-open, fitting-close}
 use Rattle.check_memory.proofs.Files.{again, again_records, expressions-close, halves-close}
 use Rattle.check_memory.proofs.Readings.{vs, s, st, stack_string, tail, none-known, length-strings, length-expressions, length-halves, outputs_is, last_is, next-is, stack_is, held-is, recorded-is, addresses_is, faults-is, strings-is}
-
-sign-most : (t : Bool) → cond t 1 0 ≤ 1
-sign-most true = omega arith
-sign-most false = omega arith
 
 record Limited (a b c : ℕ) (d : Bool) : Type 0 where
   most-a : a ≤ limit.components

@@ -1,6 +1,6 @@
 -- Where the strings start, and the string at a place.
 use mathlib.Core.Path.{◌≡◌, refl, sym, ap, ◌∙◌}
-use mathlib.Core.List.{List, [], ◌∷◌}
+use mathlib.Core.List.{List}
 use Prim.Native.Nat.{ℕ, zero, suc, ◌+◌, ◌*◌, ◌-◌, ◌≤◌, ◌<◌}
 use native.Mathlib.Decide.{dec_lt}
 use native.Mathlib.Nat.{not-suc-le-zero, le_of_suc-le-suc}
@@ -9,10 +9,11 @@ use lib.ListN.{length, get_or, take, drop, set, length-set, length-take}
 use lib.Seq.{get_or-drop, get_or-set_same, get_or-set_other, take_all, drop-drop}
 use Rattle.cells.specs.Cells.{Number}
 use Rattle.layout.specs.Cells.{two_at}
-use Rattle.layout.specs.Strings.{lengths_in, cut_by, strings_in}
+use Rattle.layout.specs.Strings.{lengths_in, strings_in}
 use Rattle.check_memory.specs.Passes.{sizes, sum}
 use Rattle.check_memory.specs.Reads.{Started, Readable, StringLent}
-use Rattle.layout.proofs.StringLaws.{length-lengths_in}
+use Rattle.lists.specs.SumLaws.{total-next, total-within}
+use Rattle.layout.proofs.StringLaws.{length-lengths_in, cut_at}
 use Rattle.layout.specs.Places as layout
 
 -- ---- lengths
@@ -36,18 +37,6 @@ size_at m i h = sym (two-drop layout.first_length (2 * i) m) ∙ sym (lengths-at
 length-sizes : (m : List ℕ) → length (sizes m) ≡ layout.strings_count
 length-sizes m = length-lengths_in layout.strings_count (drop layout.first_length m)
 
-sum-next : (ns : List ℕ) (i : ℕ) → i < length ns → sum (take (i + 1) ns) ≡ sum (take i ns) + get_or ns i 0
-sum-next [] i h = absurd (not-suc-le-zero h)
-sum-next (n ∷ ns) zero h = omega arith
-sum-next (n ∷ ns) (suc i) h =
-    let e : suc i + 1 ≡ suc (i + 1) = omega arith in
-    ap (λ k. sum (take k (n ∷ ns))) e ∙ omega (arith, sum-next ns i (le_of_suc-le-suc h))
-
-sum-within : (ns : List ℕ) (i : ℕ) → i < length ns → sum (take i ns) + get_or ns i 0 ≤ sum ns
-sum-within [] i h = absurd (not-suc-le-zero h)
-sum-within (n ∷ ns) zero h = omega arith
-sum-within (n ∷ ns) (suc i) h = omega (arith, sum-within ns i (le_of_suc-le-suc h))
-
 -- ---- the loop that writes the starts
 
 pub record Starting (m st : List ℕ) (at i : ℕ) : Type 0 where
@@ -68,7 +57,7 @@ starting-next {m} {st} {at} {i} g h {n} q {st'} w =
       upto = omega arith;
       count = ap length w ∙ length-set st i at ∙ g.count;
       place = λ k b. go k b (dec_lt k i);
-      next = omega (arith, e, g.next, sum-next (sizes m) i (omega (arith, length-sizes m)));
+      next = omega (arith, e, g.next, total-next (λ n. n) 0 (sizes m) i (omega (arith, length-sizes m)));
       small = omega (arith, g.small, q.most);
     }
   where
@@ -86,13 +75,6 @@ started {m} {st} {at} {i} g h =
 
 -- ---- the string at a place
 
-cut_at : (ns l : List ℕ) (k : ℕ) → k < length ns → get_or (cut_by ns l) k [] ≡ take (get_or ns k 0) (drop (sum (take k ns)) l)
-unfolding cut_by
-cut_at [] l k h = absurd (not-suc-le-zero h)
-cut_at (n ∷ ns) l zero h = refl
-cut_at (n ∷ ns) l (suc k) h =
-    cut_at ns (drop n l) k (le_of_suc-le-suc h) ∙ ap (take (get_or ns k 0)) (drop-drop (sum (take k ns)) n l)
-
 module _ {m st : List ℕ} {k : ℕ} (h : Readable m st) (b : k < layout.strings_count) {from n : ℕ} (a : Number (get_or st k 0) 4294967296 from) (q : Number (two_at (layout.first_length + 2 * k) m) 65536 n) where
   from_is : from ≡ layout.first_byte + sum (take k (sizes m))
   from_is = a.is ∙ h.place k b
@@ -102,7 +84,8 @@ module _ {m st : List ℕ} {k : ℕ} (h : Readable m st) (b : k < layout.strings
 
   pub string_within : from + n ≤ length m
   string_within =
-      omega (arith, from_is, n-is, sum-within (sizes m) k (omega (arith, b, length-sizes m)), h.room, h.long)
+      let few : k < length (sizes m) = omega (arith, b, length-sizes m) in
+      omega (arith, from_is, n-is, total-next (λ n. n) 0 (sizes m) k few, total-within (λ n. n) (sizes m) (k + 1), h.room, h.long)
 
   pub string_lent : StringLent m k (take (from + n - from) (drop from m))
   unfolding strings_in

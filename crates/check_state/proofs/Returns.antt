@@ -7,6 +7,7 @@ use native.Mathlib.Omega.{arith}
 use lib.Dec.{T, ltb}
 use lib.ListN.{length, get_or, get_or-eq_default}
 use borrow.Author.Tests.{lt-ltb}
+use native.Mathlib.Numerals.{sub-one}
 use Rattle.cells.specs.Cells.{Number}
 use Rattle.forms.specs.Forms.{calls}
 use Rattle.forms.specs.ReadingLaws.{calls-listed}
@@ -22,10 +23,6 @@ use Rattle.machine.proofs.WellFormedLaws.{open-program}
 use Rattle.packed.specs.Packed.{table_of}
 use Rattle.table.specs.GoodLaws.{good-instruction}
 use Rattle.table.specs.ReadLaws.{code_count}
-
-pred-is : (n : ℕ) → pred n ≡ n - 1
-pred-is zero = refl
-pred-is (suc n) = omega arith
 
 module _ (c : List ℕ) (good : T (good_table c)) where
   abbrev p : Program
@@ -44,7 +41,7 @@ module _ (c : List ℕ) (good : T (good_table c)) where
     unfolding good_return
     is-return =
         let t : ltb 0 n ≡ true = lt-ltb 0 n (omega arith) in
-        ap (λ b. b && is_call (operation (instr_at p (pred n)).op).flow) t ∙ ap (λ o. is_call (operation (instr_at p o).op).flow) (pred-is n)
+        ap (λ b. b && is_call (operation (instr_at p (pred n)).op).flow) t ∙ ap (λ o. is_call (operation (instr_at p o).op).flow) (sym (sub-one n))
 
     pub return-beyond : k ≤ n - 1 → false ≡ good_return p n
     return-beyond h =

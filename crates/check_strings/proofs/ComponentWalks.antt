@@ -1,8 +1,8 @@
 -- Sound components: what the component in front says of them, and what they are.
 use mathlib.Core.Path.{◌≡◌, refl, sym, ap, ◌∙◌, subst}
-use mathlib.Core.Bool.{Bool, true, false, cond, ◌&&◌, ◌||◌}
+use mathlib.Core.Bool.{Bool, true, false, cond, ◌&&◌}
 use mathlib.Core.List.{List, [], ◌∷◌, ◌++◌}
-use Prim.Native.Nat.{ℕ, suc, ◌+◌, ◌*◌, ◌-◌, ◌/◌, ◌%◌, ◌≤◌, ◌<◌}
+use Prim.Native.Nat.{ℕ, suc, ◌+◌, ◌*◌, ◌-◌, ◌≤◌, ◌<◌}
 use native.Mathlib.Decide.{dec_lt}
 use native.Mathlib.Omega.{arith}
 use lib.Dec.{T, leb, eqb, leb→le, le→leb, eqb→eq}
@@ -10,13 +10,15 @@ use lib.ListN.{length, get_or, take, drop, take-append-drop, get_or-append, get_
 use lib.IntN.{pos, negsuc, nat_abs}
 use lib.Seq.{get_or-take, get_or-drop, get_or-append-add, length-take-le}
 use borrow.Author.Tests.{eqb-true, eqb-false, leb-true, leb-false, ne_eqb}
+use Rattle.layout.specs.CodeLaws.{three-cells, uncode-most}
+use Rattle.lists.specs.BoolLaws.{T-first, T-second, T-either, same_test}
 use Rattle.characters.specs.Characters.{known}
 use Rattle.components.proofs.Fronts.{code-uncode, size-long}
 use Rattle.language.specs.Limits as limit
 use Rattle.language.specs.Values.{Component}
 use Rattle.language.specs.Values.Component.{word, address}
 use Rattle.layout.specs.Bounds.{Each, Ok, WholeComponents}
-use Rattle.layout.specs.Cells.{cell, three, three_at, uncode}
+use Rattle.layout.specs.Cells.{cell, three_at, uncode}
 use Rattle.layout.specs.Components.{component_bytes, components_bytes, component_size, component_in, components_from, components_in}
 use Rattle.layout.proofs.ComponentLaws.{components-front, next-component}
 use Rattle.lists.specs.ListLaws.{T-left, T-right, T-both, same_bytes-eq, same_bytes-refl, all-total, none-fail}
@@ -25,25 +27,6 @@ use Rattle.machine.specs.WellFormed.{void, strange, faults}
 use Rattle.check_strings.specs.Sound.{Bytes, sound_components, sound_short, sound_front}
 
 -- ---- tests and bytes
-
--- two tests that pass together are equal
-pub same_test : (a b : Bool) → (T a → T b) → (T b → T a) → a ≡ b
-same_test true true f g = refl
-same_test true false f g = absurd (f tt)
-same_test false true f g = absurd (g tt)
-same_test false false f g = refl
-
-T-one : (a b : Bool) → T a → T (a || b)
-T-one true b h = tt
-T-one false b h = absurd h
-
-T-other : (a b : Bool) → T b → T (a || b)
-T-other true b h = tt
-T-other false b h = h
-
-T-either : (a b : Bool) {X : Type 0} → T (a || b) → (T a → X) → (T b → X) → X
-T-either true b h f g = f tt
-T-either false b h f g = g h
 
 pub bytes-right : (a b : List ℕ) → Bytes (a ++ b) → Bytes b
 bytes-right a b h j = subst (λ n. n < 256) (get_or-append-add a b j 0) (h (length a + j))
@@ -70,23 +53,6 @@ pub record Front (l : ℕ) (b : List ℕ) : Type 0 where
   pub faultless : faults l (component_in b) ≡ 0
 
 -- the cells of a number of three
-pub three-cells : (p q r : ℕ) → p < 256 → q < 256 → r < 256 → three (p + 256 * q + 65536 * r) ≡ p ∷ q ∷ r ∷ []
-three-cells p q r a b c =
-    let v : ℕ = p + 256 * q + 65536 * r in
-    let x : v % 256 ≡ p = omega arith in
-    let m : v / 256 ≡ q + 256 * r = omega arith in
-    let y : v / 256 % 256 ≡ q = rw m (omega arith) in
-    let z : v / 65536 ≡ r = omega arith in
-    rw (x, y, z)
-
-uncode-most : (v : ℕ) → v ≤ 16777214 → nat_abs (uncode v) ≤ 8388607
-unfolding uncode
-uncode-most v h = go (leb 8388607 v) refl
-  where
-    go : (b : Bool) → leb 8388607 v ≡ b → nat_abs (cond b (pos (v - 8388607)) (negsuc (8388606 - v))) ≤ 8388607
-    go true e = omega arith
-    go false e = omega arith
-
 uncode-within : (v : ℕ) → nat_abs (uncode v) ≤ 8388607 → v ≤ 16777214
 unfolding uncode
 uncode-within v = go (leb 8388607 v) refl
@@ -191,11 +157,11 @@ sound-shorts l b e f = go (eqb (cell b 1) 1) refl
     go : (c : Bool) → eqb (cell b 1) 1 ≡ c → T (sound_short l (cell b 1) w)
     go true k =
         let n : nat_abs (uncode w) ≤ 8388607 = omega (arith, of true k) in
-        T-one (eqb (cell b 1) 1 && leb w 16777214) (eqb (cell b 1) 2 && leb w l) (T-both (eqb (cell b 1) 1) (leb w 16777214) (rw k tt) (le→leb w 16777214 (uncode-within w n)))
+        T-first (eqb (cell b 1) 1 && leb w 16777214) (eqb (cell b 1) 2 && leb w l) (T-both (eqb (cell b 1) 1) (leb w 16777214) (rw k tt) (le→leb w 16777214 (uncode-within w n)))
     go false k =
         let n : w ≤ l = omega (arith, of false k) in
         let q : cell b 1 ≡ 2 = first false k in
-        T-other (eqb (cell b 1) 1 && leb w 16777214) (eqb (cell b 1) 2 && leb w l) (T-both (eqb (cell b 1) 2) (leb w l) (rw q tt) (le→leb w l n))
+        T-second (eqb (cell b 1) 1 && leb w 16777214) (eqb (cell b 1) 2 && leb w l) (T-both (eqb (cell b 1) 2) (leb w l) (rw q tt) (le→leb w l n))
 
 pub front-close : (l : ℕ) (b : List ℕ) → Front l b → T (sound_front l b)
 unfolding sound_front

@@ -8,6 +8,8 @@ use lib.Dec.{T, leb, ltb, eqb, leb→le, le→leb, ltb→lt, lt→ltb, eqb→eq}
 use lib.ListN.{length, take, drop, length-drop, take-append-drop}
 use lib.Seq.{get_or-drop, length-take-le, take-add, take_at, drop_at, drop-drop}
 use borrow.Author.Tests.{eq-eqb}
+use Rattle.layout.specs.CodeLaws.{three-cells}
+use Rattle.lists.specs.BoolLaws.{same_test}
 use Rattle.language.specs.Limits as limit
 use Rattle.language.specs.Values.{Record}
 use Rattle.layout.specs.Bounds.{Each, RecordOk, WholeComponents, WholeRecords}
@@ -19,7 +21,7 @@ use Rattle.lists.specs.ListLaws.{T-left, T-right, T-both, same_bytes-eq, same_by
 use Rattle.lists.specs.Lists.{total, all, bytes_equal}
 use Rattle.machine.specs.WellFormed.{void, faults, record_faults}
 use Rattle.check_strings.specs.Sound.{Bytes, sound_components, given, sound_records, sound_record}
-use Rattle.check_strings.proofs.ComponentWalks.{same_test, bytes_left, bytes-right, bytes_drop, bytes_take, three-cells, Parts, parts-open, parts-close, parts_whole, oks-of}
+use Rattle.check_strings.proofs.ComponentWalks.{bytes_left, bytes-right, bytes_drop, bytes_take, Parts, parts-open, parts-close, parts_whole, oks-of}
 
 -- ---- numbers in cells
 
@@ -66,6 +68,22 @@ module _ (l : ℕ) (b : List ℕ) (k : l ≤ limit.addresses) (h : Bytes b) wher
   abbrev inner : List ℕ
   inner = take n (drop 5 b)
 
+  -- the five tests of a record
+  abbrev t0 : Bool
+  t0 = leb (7 + n) (length b)
+
+  abbrev t1 : Bool
+  t1 = eqb (two_at (5 + n) b) n
+
+  abbrev t2 : Bool
+  t2 = ltb 0 n
+
+  abbrev t3 : Bool
+  t3 = given l (three_at 0 b)
+
+  abbrev t4 : Bool
+  t4 = sound_components l inner
+
   bytes-inner : Bytes inner
   bytes-inner = bytes_take n (drop 5 b) (bytes_drop 5 b h)
 
@@ -100,11 +118,6 @@ module _ (l : ℕ) (b : List ℕ) (k : l ≤ limit.addresses) (h : Bytes b) wher
   pub front-open : T (sound_record l b) → Front l b
   unfolding sound_record
   front-open s =
-      let t0 : Bool = leb (7 + n) (length b) in
-      let t1 : Bool = eqb (two_at (5 + n) b) n in
-      let t2 : Bool = ltb 0 n in
-      let t3 : Bool = given l (three_at 0 b) in
-      let t4 : Bool = sound_components l inner in
       let s3 = T-left (t0 && t1 && t2 && t3) t4 s in
       let s2 = T-left (t0 && t1 && t2) t3 s3 in
       let s1 = T-left (t0 && t1) t2 s2 in
@@ -160,11 +173,6 @@ module _ (l : ℕ) (b : List ℕ) (k : l ≤ limit.addresses) (h : Bytes b) wher
   pub front-close : Front l b → T (sound_record l b)
   unfolding sound_record record_in
   front-close f =
-      let t0 : Bool = leb (7 + n) (length b) in
-      let t1 : Bool = eqb (two_at (5 + n) b) n in
-      let t2 : Bool = ltb 0 n in
-      let t3 : Bool = given l (three_at 0 b) in
-      let t4 : Bool = sound_components l inner in
       let e : T t1 = rw (eq-eqb (two_at (5 + n) b) n (end_is f)) tt in
       T-both (t0 && t1 && t2 && t3) t4
       (T-both (t0 && t1 && t2) t3 (T-both (t0 && t1) t2 (T-both t0 t1 (le→leb (7 + n) (length b) f.fits) e) (lt→ltb 0 n (some f))) f.addressed)

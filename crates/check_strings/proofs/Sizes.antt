@@ -11,6 +11,8 @@ use lib.Dec.{leb, ltb, eqb}
 use lib.ListN.{length, take, drop, length-drop}
 use lib.Seq.{take_all}
 use borrow.Author.Tests.{le-leb, lt-leb, eq-eqb, ne_eqb, leb-true}
+use Rattle.std.proofs.lemmas.Bool.{and_parts}
+use Rattle.lists.specs.BoolLaws.{some-if}
 use Rattle.cells.specs.Cells.{Number}
 use Rattle.characters.specs.Characters.{known}
 use Rattle.components.proofs.Fronts.{size-long, size-most}
@@ -23,10 +25,6 @@ use Rattle.check_strings.proofs.ComponentWalks.{bytes_drop, bytes_take, componen
 use Rattle.check_strings.proofs.RecordWalks.{records-walk}
 
 -- a size that is told where t says so
-then_is : (t : Bool) (n : ℕ) → then_some t n ≡ cond t (Some n) None
-then_is true n = refl
-then_is false n = refl
-
 then-most : (t : Bool) (n m : ℕ) → n ≤ m → IfSome (then_some t n) (λ i. i ≤ m)
 then-most true n m h = h
 then-most false n m h = tt
@@ -44,7 +42,7 @@ module _ (b : List ℕ) {n : ℕ} (q : Number (component_size (cell b 0)) 257 n)
   fitting = le-leb (component_size (cell b 0)) (length b) (omega (arith, q.is))
 
   front-sized : {l : ℕ} {r : Option ℕ} (t : Bool) → sound_front l b ≡ t → r ≡ then_some t n → FrontSize l b r
-  front-sized {l} {r} t e k = record { is = k ∙ then_is t n ∙ rw (e, q.is) refl; most = rw k (then-most t n (length b) h) }
+  front-sized {l} {r} t e k = record { is = k ∙ some-if t n ∙ rw (e, q.is) refl; most = rw k (then-most t n (length b) h) }
 
   pub front-shown : {l : ℕ} {r : Option ℕ} → cell b 0 ≡ 0 → {v : ℕ} → Number (three_at 2 b) 16777216 v → {t : Bool} → t ≡ sound_short l (cell b 1) v → r ≡ then_some t n → FrontSize l b r
   unfolding sound_front
@@ -59,11 +57,7 @@ module _ (b : List ℕ) {n : ℕ} (q : Number (component_size (cell b 0)) 257 n)
 -- ---- the record in front
 
 pub framed-fits : (b : List ℕ) {t : Bool} → t ≡ framed b → t ≡ true → 7 + two_at 3 b ≤ length b
-framed-fits b e h = leb-true (7 + two_at 3 b) (length b) (go (leb (7 + two_at 3 b) (length b)) (eqb (two_at (5 + two_at 3 b) b) (two_at 3 b)) (sym e ∙ h))
-  where
-    go : (a c : Bool) → (a && c) ≡ true → a ≡ true
-    go true c k = refl
-    go false c k = k
+framed-fits b e h = leb-true (7 + two_at 3 b) (length b) (and_parts (leb (7 + two_at 3 b) (length b)) (eqb (two_at (5 + two_at 3 b) b) (two_at 3 b)) (sym e ∙ h)).0
 
 pub record-none : {l : ℕ} {b : List ℕ} {t : Bool} → t ≡ framed b → t ≡ false → RecordSize l b None
 unfolding sound_record
@@ -76,7 +70,7 @@ module _ {l n a : ℕ} {r : Option ℕ} {b : List ℕ} (f : framed b ≡ true) (
       let c : 5 + n - 5 ≡ two_at 3 b = omega (arith, q.is) in
       let e : sound_record l b ≡ ltb 0 n && g && t = rw (f, q.is, x, s.is, y, c) refl in
       let d : 5 + n + 2 ≡ 7 + two_at 3 b = omega (arith, q.is) in
-      record { is = k ∙ then_is (ltb 0 n && g && t) (5 + n + 2) ∙ rw (e, d) refl; most = rw k (then-most (ltb 0 n && g && t) (5 + n + 2) (length b) (omega arith)) }
+      record { is = k ∙ some-if (ltb 0 n && g && t) (5 + n + 2) ∙ rw (e, d) refl; most = rw k (then-most (ltb 0 n && g && t) (5 + n + 2) (length b) (omega arith)) }
 
 -- ---- a turn of a walk over b, what is left of the cells
 

@@ -2,11 +2,12 @@
 use Rattle.std.specs.Prelude.{◌≡◌, Bool, cond, ◌&&◌, ◌||◌, List, [], ◌∷◌, map, leb, length, get_or}
 use Rattle.std.proofs.Math.Path.{refl, ap}
 use Rattle.std.proofs.Common.{sym, ◌∙◌, arith, eqb→eq, eqb-true, ne_eqb, lt-ltb}
-use Rattle.std.proofs.Math.Bool.{true, false, not}
+use Rattle.std.proofs.Math.Bool.{true, false, not, not-not, or-false}
 use Prim.Native.Nat.{ℕ, zero, suc, ◌+◌, ◌*◌, ◌/◌, ◌%◌, ◌^◌, ◌≤◌, ◌<◌}
 use Rattle.std.specs.Int.Bits.{bit_and}
 use Rattle.std.proofs.Math.Dec.{T, ltb, eqb, ltb→lt}
 use Rattle.std.proofs.lemmas.List.{length-map}
+use lib.Ieee.Bits.{is_true}
 use Rattle.language.specs.Instructions.{Forms, operation}
 use Rattle.language.specs.Letters.{letters, letter_code}
 use Rattle.language.specs.Letters.Letter.{A}
@@ -57,10 +58,6 @@ any-one f q (x ∷ xs) = go (eqb f x) refl (any-one f q xs)
         rw (z, h) (meet (among f xs) (q f))
     go false e h = h
 
-not-not : (b : Bool) → not (not b) ≡ b
-not-not true = refl
-not-not false = refl
-
 -- the set of one form, and what a list has at a place
 module _ (o : Op) (list place f : ℕ) (some : T (among f forms)) where
   abbrev here : List ℕ
@@ -74,11 +71,7 @@ module _ (o : Op) (list place f : ℕ) (some : T (among f forms)) where
       ∙ ap not (bits_none (λ g. eqb f g && among g here) forms)
       ∙ not-not (any (λ g. eqb f g && among g here) forms)
       ∙ any-one f (λ g. among g here) forms
-      ∙ ap (λ (b : Bool). b && among f here) (T_true (among f forms) some)
-    where
-      T_true : (b : Bool) → T b → b ≡ true
-      T_true true h = refl
-      T_true false h = absurd h
+      ∙ ap (λ (b : Bool). b && among f here) (is_true (among f forms) some)
 
 -- ---- one list or the other
 
@@ -92,14 +85,10 @@ module _ (x y z : ℕ) where
   abbrev within_at : List (List (List ℕ)) → ℕ → Bool
   within_at fs n = among x (get_or (get_or fs n []) 0 []) && among y (get_or (get_or fs n []) 1 []) && among z (get_or (get_or fs n []) 2 [])
 
-  or-false : (a : Bool) → a ≡ (a || false)
-  or-false true = refl
-  or-false false = refl
-
   two-places : (fs : List Forms) → length fs ≤ 2 → (within_at (map places fs) 0 || within_at (map places fs) 1) ≡ any within fs
   two-places [] h = refl
   two-places (f ∷ []) h = refl
-  two-places (f ∷ g ∷ []) h = ap (λ (b : Bool). within f || b) (or-false (within g))
+  two-places (f ∷ g ∷ []) h = ap (λ (b : Bool). within f || b) (sym (or-false (within g)))
   two-places (f ∷ g ∷ k ∷ fs) h = absurd (omega (arith, h))
 
   pub lists-alike : (o : Op) → (within_at (alternatives o) 0 || within_at (alternatives o) 1) ≡ any within (operation o).forms

@@ -1,18 +1,21 @@
 -- Digits and bytes as the code computes them: by computed tests, and one turn of each loop.
 use Rattle.std.specs.Prelude.{Some, None, not}
 use mathlib.Core.Path.{◌≡◌, refl, sym, ap, ◌∙◌, subst}
-use mathlib.Core.Bool.{Bool, true, false, cond, ◌&&◌, ◌||◌}
+use mathlib.Core.Bool.{Bool, true, false, cond, ◌&&◌, and_assoc, and-false, and-true}
+pub use mathlib.Core.Bool.{and-false}
 use mathlib.Core.List.{List, [], ◌∷◌, ◌++◌}
 use Prim.Native.Nat.{ℕ, zero, suc, ◌+◌, ◌*◌, ◌-◌, ◌/◌, ◌%◌, ◌≤◌, ◌<◌}
 use native.Mathlib.Numerals.{add-one}
 use native.Mathlib.Omega.{arith}
-use lib.Dec.{T, eqb, leb, ltb, eqb→eq, ltb→lt, leb-suc-suc, leb-zero}
+use lib.Dec.{T, eqb, leb, ltb, eqb→eq, ltb→lt}
 use lib.ListN.{length, get_or, take, drop, set, length-take, length-drop}
-use lib.Seq.{set_split, take-suc, take-add, take-take, drop-cons, get_or-drop}
+use lib.Seq.{take_all, set_split, take-suc, take-add, take-take, drop-cons, get_or-drop}
 use lib.Ieee.Bits.{is_true, is_false}
 use borrow.Author.Tests.{lt-ltb, le-ltb, le-leb, lt-leb}
+use Rattle.lists.specs.SearchLaws.{any-ahead}
 use Rattle.lists.specs.ListLaws.{T-left, T-right, T-both, all_head, all_tail, total-append}
-use Rattle.lists.specs.Lists.{all, any, ahead}
+use Rattle.lists.specs.Lists.{all}
+use Rattle.lists.specs.SearchLaws.{any-ahead}
 use Rattle.lists.specs.TableLaws.{below}
 use Rattle.layout.proofs.CellLaws.{length-each}
 use Rattle.cells.proofs.Laws.{pasted-pasted, length-pasted, pasted-none, set-two}
@@ -35,10 +38,6 @@ digit_low n h = let k : n < 16 = omega arith in rw (lt-ltb n 10 h) at (digit-by 
 
 pub digit-high : (n : ℕ) → n < 16 → 10 ≤ n → 55 + n ≡ digit n
 digit-high n k h = rw (le-ltb n 10 h) at (digit-by n k)
-
-pub and-false : (b : Bool) → b && false ≡ false
-and-false true = refl
-and-false false = refl
 
 -- the number of a character, by one computed test of all
 abbrev right_by : ℕ → Bool
@@ -92,28 +91,10 @@ module _ (x : ℕ) (b : x < 256) where
 
 -- ---- two digits
 
-any-ahead : {X : Type 0} (p : X → Bool) (xs : List X) → any p xs ≡ ltb (ahead p xs) (length xs)
-any-ahead p [] = refl
-any-ahead p (x ∷ xs) = go (p x) (any-ahead p xs)
-  where
-    go : (b : Bool) → any p xs ≡ ltb (ahead p xs) (length xs) → b || any p xs ≡ ltb (elim b [ true ↦ 0 | false ↦ suc (ahead p xs) ]) (suc (length xs))
-    go true e = sym (leb-suc-suc 0 (length xs) ∙ leb-zero (length xs))
-    go false e = e ∙ sym (leb-suc-suc (suc (ahead p xs)) (length xs))
-
 -- a digit is what has a number below 16
 pub is-digit-by : (x : ℕ) → is_digit x ≡ ltb (digit_value x) 16
 unfolding digit_value is_digit
 is-digit-by x = any-ahead (eqb x) digits
-
-pub and-true : (a b : Bool) → a && b ≡ true → a && (b && true) ≡ true
-and-true true true e = refl
-and-true true false e = e
-and-true false b e = e
-
-and-true-false : (a b : Bool) → a && b ≡ false → a && (b && true) ≡ false
-and-true-false true true e = e
-and-true-false true false e = refl
-and-true-false false b e = refl
 
 -- one cell set is a run of one
 pub set-one : (d : List ℕ) (at x : ℕ) → at < length d → set d at x ≡ pasted d at (x ∷ [])
@@ -289,10 +270,6 @@ module _ (text : List ℕ) (at j : ℕ) (h : at + 2 * (j + 1) ≤ length text) w
 pub all_two : (l : List ℕ) (x y : ℕ) → all is_digit (l ++ (x ∷ y ∷ [])) ≡ all is_digit l && (is_digit x && (is_digit y && true))
 all_two [] x y = refl
 all_two (z ∷ l) x y = ap (λ (b : Bool). is_digit z && b) (all_two l x y) ∙ sym (and_assoc (is_digit z) (all is_digit l) (is_digit x && (is_digit y && true)))
-  where
-    and_assoc : (a b c : Bool) → a && b && c ≡ a && (b && c)
-    and_assoc true b c = refl
-    and_assoc false b c = refl
 
 pub bytes-two : (j : ℕ) (l : List ℕ) (x y : ℕ) → length l ≡ 2 * j → bytes_in (l ++ (x ∷ y ∷ [])) ≡ bytes_in l ++ ((16 * digit_value x + digit_value y) ∷ [])
 unfolding bytes_in
@@ -322,7 +299,7 @@ digits-stop text at n j more k f =
     let D = digits_at text at j in
     let u = get_or text (at + 2 * j) 0 in
     let v = get_or text (1 + (at + 2 * j)) 0 in
-    let last : is_digit u && (is_digit v && true) ≡ false = and-true-false (is_digit u) (is_digit v) f in
+    let last : is_digit u && (is_digit v && true) ≡ false = ap (λ (z : Bool). is_digit u && z) (and-true (is_digit v)) ∙ f in
     let short : all is_digit (digits_at text at (j + 1)) ≡ false = ap (all is_digit) (digits-next text at j more) ∙ all_two D u v ∙ rw last (and-false (all is_digit D)) in
     let front : take (2 * (j + 1)) (digits_at text at n) ≡ digits_at text at (j + 1) = take-take (2 * (j + 1)) (2 * n) (drop at text) (omega arith) in
     go (all is_digit (digits_at text at n)) refl (ap (all is_digit) front ∙ short)
@@ -357,7 +334,7 @@ module _ (d : List ℕ) (to : ℕ) (text : List ℕ) (at n j : ℕ) (t : List �
       let both : is_digit u && is_digit v ≡ true = byte-under u v (rw (← e) h) in
       let next = digits-next text at j more in
       let long = length_digits text at j more in
-      let yes : is_digit u && (is_digit v && true) ≡ true = and-true (is_digit u) (is_digit v) both in
+      let yes : is_digit u && (is_digit v && true) ≡ true = ap (λ (z : Bool). is_digit u && z) (and-true (is_digit v)) ∙ both in
       let value : b ≡ 16 * digit_value u + digit_value v = e ∙ sym (byte-yes u v both) in
       let lb : length (bytes_in D) ≡ j = length-bytes j D long in
       let at_end : to + j ≡ to + length (bytes_in D) = omega (arith, lb) in
@@ -376,14 +353,18 @@ module _ (d : List ℕ) (to : ℕ) (text : List ℕ) (at n j : ℕ) (t : List �
   pub read-stops : 256 ≤ b → false ≡ all is_digit (digits_at text at n)
   read-stops h = sym (digits-stop text at n j more k (byte-over u v (rw (← e) h)))
 
--- all n bytes are read
-pub read_all : (d : List ℕ) (to : ℕ) (text : List ℕ) (at n j : ℕ) (t : List ℕ) → Read d to text at j t → j ≤ n → n ≤ j → Got d to text at n (Some tt) t
-read_all d to text at n j t r h k =
-    let q : j ≡ n = omega arith in
-    record {
-      told = sym r.digits_so_far ∙ ap (λ (m : ℕ). all is_digit (digits_at text at m)) q;
-      bytes = λ z. r.bytes_so_far ∙ ap (λ (m : ℕ). pasted d to (bytes_in (digits_at text at m))) q;
-    }
+-- all bytes are read
+module _ (s : List ℕ) (even : 2 * (length s / 2) ≡ length s) where
+  pub digits_all : (j : ℕ) → length s / 2 ≤ j → digits_at s 0 j ≡ s
+  digits_all j h = take_all (2 * j) s (omega (arith, even))
+
+  pub read_all : (d : List ℕ) (at j : ℕ) (t : List ℕ) → Read d at s 0 j t → length s / 2 ≤ j → Got d at s (Some tt) t
+  read_all d at j t r h =
+      let q = digits_all j h in
+      record {
+        told = sym r.digits_so_far ∙ ap (all is_digit) q;
+        bytes = λ z. r.bytes_so_far ∙ ap (λ (l : List ℕ). pasted d at (bytes_in l)) q;
+      }
 
 -- ---- sums
 

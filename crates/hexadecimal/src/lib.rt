@@ -58,14 +58,14 @@ pub fn byte_at(text: &[u8], at: usize) -> Option<u8>
     Some(16 * high + low)
 }
 
-// Copies the `n` bytes of the digits from `at` on into `dst` from `to` on, if they are all digits.
-pub fn get_bytes(dst: &mut [u8], to: usize, text: &[u8], at: usize, n: usize) -> Option<()>
-    requires { Gettable (length dst.old) to (length text.now) at n }
-    ensures { Got dst.old to text.now at n result dst.new }
+// Copies the bytes of the digits `src` into the cells from `at` on, if they are all digits.
+pub fn get_bytes(dst: &mut [u8], at: usize, src: &[u8]) -> Option<()>
+    requires { Gettable (length dst.old) at (length src.now) }
+    ensures { Got dst.old at src.now result dst.new }
 {
-    for j in 0..n {
-        let b = byte_at(text, at + 2 * j)?;
-        dst[to + j] = b;
+    for j in 0..src.len() / 2 {
+        let b = byte_at(src, 2 * j)?;
+        dst[at + j] = b;
     }
     Some(())
 }

@@ -9,6 +9,7 @@ use native.Mathlib.Omega.{arith}
 use lib.Dec.{eqb}
 use lib.ListN.{length, get_or, take, drop, length-append, length-take, length-drop, drop_of_length-le, get_or-append}
 use lib.Seq.{drop_at, drop-drop, get_or-drop, get_or-take, take-take, take_all, take-nil}
+use Rattle.lists.specs.BoolLaws.{sign-most}
 use Rattle.gaps.proofs.Parts.{drop-take}
 use Rattle.language.specs.Limits as limit
 use Rattle.lists.specs.Lists.{each}
@@ -20,6 +21,15 @@ use Rattle.layout.proofs.StringLaws.{joined_next, joined-within}
 use Rattle.state_frames.specs.Frames.{Frame, expression, file, output, stack, frames_in}
 use Rattle.state_frames.specs.Saved.{contents_at, contents_of, before_half, after_half, halves, strings_by}
 use Rattle.state_contents.specs.Contents.{Stored, Gathered, Standing, half_of, strings_of, Fitting}
+
+-- ---- of a kind by its number
+
+pub gathered-by : (i : ℕ) (fs : List Frame) {j k : ℕ} {p : Option ℕ} {o : List ℕ} → j ≡ k → Gathered (contents_at j i fs) p o → Gathered (contents_at k i fs) p o
+gathered-by i fs {p = p} {o = o} e = subst (λ k. Gathered (contents_at k i fs) p o) e
+
+pub standing-by : (i : ℕ) (fs : List Frame) {j k from to : ℕ} {o : List ℕ} → j ≡ k → Standing (length (contents_at j i fs) ≤ length o) (contents_at j i fs) o from to
+    → Standing (length (contents_at k i fs) ≤ length o) (contents_at k i fs) o from to
+standing-by i fs {from = from} {to = to} {o = o} e = subst (λ k. Standing (length (contents_at k i fs) ≤ length o) (contents_at k i fs) o from to) e
 
 -- ---- whole contents
 
@@ -161,13 +171,9 @@ module _ (t : List ℕ) where
   file-at q b h =
       let k = 2 * q + cond b 1 0 in
       let z : suc q ≡ q + 1 = omega arith in
-      let l : k < layout.file_strings_count = omega (arith, most b) in
+      let l : k < layout.file_strings_count = omega (arith, sign-most b) in
       sym (get_or-drop layout.first_file vs k []) ∙ ap (λ ws. get_or ws k []) files-drop ∙ get_or-append (each halves F) (R ∷ Q) [] k (rw length-H l) ∙ halves-at F q b (rw length-F h)
       ∙ ap (half_of b) (get_d-tab limit.files (λ i. contents_at file (suc i) fs) q [] h ∙ ap (λ (i : ℕ). contents_at file i fs) z)
-    where
-      most : (b : Bool) → cond b 1 0 ≤ 1
-      most true = omega arith
-      most false = omega arith
 
   file-string : (j : ℕ) → layout.first_file ≤ j → j < layout.stack_string → half_of (eqb ((j - layout.first_file) % 2) 1) (contents_at file ((j - layout.first_file) / 2 + 1) fs) ≡ get_or vs j []
   file-string j h k =

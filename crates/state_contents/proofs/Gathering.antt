@@ -4,12 +4,13 @@ use Rattle.std.specs.Option.{is_some}
 use mathlib.Core.Path.{◌≡◌, refl, sym, ap, ◌∙◌, subst}
 use mathlib.Core.Bool.{Bool, true, false, ◌&&◌}
 use mathlib.Core.List.{List, [], ◌∷◌, ◌++◌, map, append_assoc, append-nil}
-use Prim.Native.Nat.{ℕ, ◌+◌, ◌*◌, ◌/◌, ◌%◌, ◌≤◌, ◌<◌}
+use Prim.Native.Nat.{ℕ, ◌+◌, ◌*◌, ◌-◌, ◌/◌, ◌%◌, ◌≤◌, ◌<◌}
 use native.Mathlib.Omega.{arith}
 use lib.Dec.{T}
 use lib.ListN.{length, get_or, take, drop, length-append, length-take, take-append-drop, drop_of_length-le}
 use lib.Ieee.Bits.{is_true}
 use lib.Seq.{take_at, drop_at}
+use Rattle.std.proofs.lemmas.List.{nil_from_length}
 use Rattle.lists.specs.ListLaws.{T-left, T-right, T-both}
 use Rattle.lists.specs.Lists.{all}
 use Rattle.text_lines.specs.LineLaws.{lines-first}
@@ -147,13 +148,14 @@ module _ {t : List ℕ} {f : Frame} (l : Begins t f) where
   all-there : all is_digit (digits_at t 8 (length c)) ≡ true
   all-there = ap (all is_digit) digits-there ∙ is_true (all is_digit (hexadecimal c)) (all_digits c contents_below)
 
-  pub got-there : {o o' : List ℕ} {n : ℕ} {r : Option (Unit {0})} → Got o n t 8 (length c) r o' → o' ≡ pasted o n c
-  got-there {o} {n = n} {r = r} g =
-      let yes : T (is_some r) = subst T (sym (g.told ∙ all-there)) tt in
-      g.bytes yes ∙ ap (λ (d : List ℕ). pasted o n (bytes_in d)) digits-there ∙ ap (pasted o n) (bytes_back c contents_below)
+  module _ {s : List ℕ} (q : s ≡ digits_at t 8 (length c)) {o o' : List ℕ} {n : ℕ} {r : Option (Unit {0})} (g : Got o n s r o') where
+    pub got-there : o' ≡ pasted o n c
+    got-there =
+        let yes : T (is_some r) = subst T (sym (g.told ∙ ap (all is_digit) q ∙ all-there)) tt in
+        g.bytes yes ∙ ap (λ (d : List ℕ). pasted o n (bytes_in d)) (q ∙ digits-there) ∙ ap (pasted o n) (bytes_back c contents_below)
 
-  pub got-always : {o o' : List ℕ} {n : ℕ} {r : Option (Unit {0})} → Got o n t 8 (length c) r o' → r ≡ None → ⊥
-  got-always g e = subst T (sym (g.told ∙ all-there) ∙ ap is_some e) tt
+    pub got-always : r ≡ None → ⊥
+    got-always e = subst T (sym (g.told ∙ ap (all is_digit) q ∙ all-there) ∙ ap is_some e) tt
 
   -- the line alone begins so too
   pub begins-take : Begins (take (11 + 2 * length f.contents) t) f
@@ -162,6 +164,10 @@ module _ {t : List ℕ} {f : Frame} (l : Begins t f) where
       let e : take n t ≡ frame_line f = ap (take n) l.line ∙ take_at (frame_line f) v n (line-long f) in
       let z : drop n (frame_line f) ≡ [] = drop_of_length-le (frame_line f) {i = n} (omega (arith, line-long f)) in
       record { below = l.below; line = e ∙ sym (append-nil (frame_line f)) ∙ ap (λ (x : List ℕ). frame_line f ++ x) (sym (ap (drop n) e ∙ z)) }
+
+-- the digits of a line's contents, as they are cut out of it
+pub cut-there : (l : List ℕ) (size : ℕ) → take (8 + 2 * size - 8) (drop 8 l) ≡ digits_at l 8 size
+cut-there l size = let e : 8 + 2 * size - 8 ≡ 2 * size = omega arith in rw e refl
 
 -- ---- what a frame adds
 
@@ -188,13 +194,13 @@ module _ {l : List ℕ} {k i : ℕ} {b : Bool} (told : Tells l k i b) where
       pub no_room : length o < n + size → Added l k i n o None o'
       no_room h = record { frame = λ f g. rw (this-one f g) (omega (arith, h, long f g)) }
 
-      module _ {r : Option (Unit {0})} (got : Got o n l 8 size r o') where
+      module _ {s : List ℕ} (q : s ≡ digits_at l 8 size) {r : Option (Unit {0})} (got : Got o n s r o') where
         pub got-none : r ≡ None → Added l k i n o None o'
-        got-none w = record { frame = λ f g. absurd (got-always g (rw (long f g) at got) w) }
+        got-none w = record { frame = λ f g. absurd (got-always g (rw (long f g) at q) got w) }
 
         pub got-one : n + size ≤ length o → Added l k i n o (Some (n + size)) o'
         got-one w = record {
-          frame = λ f g. rw (this-one f g) (record { count = rw (long f g); room = w; row = got-there g (rw (long f g) at got) });
+          frame = λ f g. rw (this-one f g) (record { count = rw (long f g); room = w; row = got-there g (rw (long f g) at q) got });
         }
 
 -- ---- from frame to frame
@@ -273,14 +279,10 @@ pub record Gathering (t : List ℕ) (k i : ℕ) (o : List ℕ) (n : ℕ) (u : Li
 pub gathering-none : (t : List ℕ) (k i : ℕ) (o : List ℕ) → T (sound_text t) → Gathering t k i o 0 t
 gathering-none t k i o s = record { so_far = []; count = refl; room = omega arith; bytes = refl; sound = s; all = refl }
 
-nothing-left : (u : List ℕ) → length u ≡ 0 → u ≡ []
-nothing-left [] h = refl
-nothing-left (x ∷ u) h = absurd (omega (arith, h))
-
 pub gathering-all : {t : List ℕ} {k i : ℕ} {o : List ℕ} {n : ℕ} {u : List ℕ} → Gathering t k i o n u → length u ≡ 0 → Gathered (contents_at k i (frames_in t)) (Some n) o
 unfolding frames_in lines contents_at
 gathering-all {t} {k} {i} {u = u} g h =
-    let none : u ≡ [] = nothing-left u h in
+    let none : u ≡ [] = nil_from_length u h in
     let e : contents_at k i (frames_in t) ≡ g.so_far = g.all ∙ ap (λ (x : List ℕ). g.so_far ++ contents_at k i (frames_in x)) none ∙ append-nil g.so_far in
     record { told = record { count = g.count ∙ ap length (sym e); room = g.room; bytes = g.bytes ∙ sym e } }
 

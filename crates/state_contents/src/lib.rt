@@ -5,7 +5,6 @@ ghost use Rattle.std.specs.Prelude.{◌≡◌, [], ◌≤◌, T, length, get_or,
 ghost use Rattle.language.specs.Limits as limit;
 ghost use Rattle.state_frames.specs.Frames.{head, file, sound_text, frames_in};
 ghost use Rattle.state_frames.specs.Saved.{contents_at};
-ghost use Rattle.state_lines.specs.Kinds.{kind_number};
 ghost use Rattle.state_contents.specs.Contents.{Lined, Tells, Added, Gathered, Standing, half_of, strings_of, Fitting, Findable, Puttable, PutOne, Layable, StringsLaid, HeadLaid, Laid};
 
 use language::Machine;
@@ -16,18 +15,18 @@ use std::ops::Range;
 // Whether a line is that of the frame asked for.
 fn is_of(line: &[u8], slot: Slot) -> bool
     requires { Lined line.now }
-    ensures { Tells line.now (kind_number slot.kind) slot.index result }
+    ensures { Tells line.now slot.kind slot.index result }
 {
     let kind = hexadecimal::byte_at(line, 0).unwrap();
     let index = hexadecimal::byte_at(line, 2).unwrap();
-    (usize::from(slot.kind) == usize::from(kind)) & (slot.index == usize::from(index))
+    (slot.kind == kind) & (slot.index == usize::from(index))
 }
 
 // Copies the contents of a line behind `n` bytes of the row if it is the one asked for, and tells how many bytes there are then: none where the row has
 // no room.
 fn gather(line: &[u8], slot: Slot, row: &mut [u8], n: usize) -> Option<usize>
     requires { Lined line.now × (n ≤ length row.old) }
-    ensures { Added line.now (kind_number slot.kind) slot.index n row.old result row.new }
+    ensures { Added line.now slot.kind slot.index n row.old result row.new }
 {
     if !is_of(line, slot) {
         return Some(n);
@@ -36,7 +35,8 @@ fn gather(line: &[u8], slot: Slot, row: &mut [u8], n: usize) -> Option<usize>
     if row.len() < n + size {
         return None;
     }
-    hexadecimal::get_bytes(row, n, line, state_lines::FRONT, size)?;
+    let digits = &line[state_lines::FRONT..state_lines::FRONT + 2 * size];
+    hexadecimal::get_bytes(row, n, digits)?;
     Some(n + size)
 }
 
@@ -44,7 +44,7 @@ fn gather(line: &[u8], slot: Slot, row: &mut [u8], n: usize) -> Option<usize>
 // long it is, so no method of std walks so.
 fn contents(text: &[u8], slot: Slot, row: &mut [u8]) -> Option<usize>
     requires { T (sound_text text.now) }
-    ensures { Gathered (contents_at (kind_number slot.kind) slot.index (frames_in text.now)) result row.new }
+    ensures { Gathered (contents_at slot.kind slot.index (frames_in text.now)) result row.new }
 {
     let mut n = 0;
     let mut rest = text;
@@ -60,7 +60,7 @@ fn contents(text: &[u8], slot: Slot, row: &mut [u8]) -> Option<usize>
 // A string that is the whole contents.
 fn whole(text: &[u8], slot: Slot, row: &mut [u8]) -> Range<usize>
     requires { T (sound_text text.now) }
-    ensures { Standing (length (contents_at (kind_number slot.kind) slot.index (frames_in text.now)) ≤ length row.new) (contents_at (kind_number slot.kind) slot.index (frames_in text.now)) row.new result.start result.end }
+    ensures { Standing (length (contents_at slot.kind slot.index (frames_in text.now)) ≤ length row.new) (contents_at slot.kind slot.index (frames_in text.now)) row.new result.start result.end }
 {
     0..contents(text, slot, row).unwrap_or(0)
 }
@@ -72,7 +72,7 @@ fn half(text: &[u8], index: usize, after: bool, row: &mut [u8]) -> Range<usize>
     ensures { Standing (length (contents_at file index (frames_in text.now)) ≤ length row.new) (half_of after (contents_at file index (frames_in text.now))) row.new result.start result.end }
 {
     let slot = Slot {
-        kind: Kind::File,
+        kind: u8::from(Kind::File),
         index,
     };
     let Some(n) = contents(text, slot, row) else {
@@ -101,7 +101,7 @@ fn string(text: &[u8], j: usize, row: &mut [u8]) -> Range<usize>
 {
     if j < StatePlaces::FIRST_FILE {
         let slot = Slot {
-            kind: Kind::Expression,
+            kind: u8::from(Kind::Expression),
             index: j + 1,
         };
         return whole(text, slot, row);
@@ -114,7 +114,7 @@ fn string(text: &[u8], j: usize, row: &mut [u8]) -> Range<usize>
         return whole(text, Slot::STACK, row);
     }
     let slot = Slot {
-        kind: Kind::Output,
+        kind: u8::from(Kind::Output),
         index: j - StatePlaces::STACK_STRING,
     };
     whole(text, slot, row)

@@ -1,7 +1,7 @@
 -- A line by its digits: its last byte, its bytes, their sum, and the length that it says.
 use Rattle.std.specs.Prelude.{Some, None}
 use mathlib.Core.Path.{◌≡◌, refl, sym, ap, ◌∙◌}
-use mathlib.Core.Bool.{Bool, true, false, cond, ◌&&◌}
+use mathlib.Core.Bool.{Bool, true, false, cond, ◌&&◌, and_assoc, and-true, and-false}
 use mathlib.Core.List.{List, [], ◌∷◌, ◌++◌}
 use Prim.Native.Nat.{ℕ, zero, suc, ◌+◌, ◌*◌, ◌%◌, ◌≤◌, ◌<◌}
 use native.Mathlib.Omega.{arith}
@@ -17,16 +17,8 @@ use Rattle.layout.specs.Cells.{cell}
 use Rattle.hexadecimal.specs.Below.Hexadecimal.{digit_value, is_digit, is_line, bytes_in}
 use Rattle.hexadecimal.specs.Below.Frames.{sum, right_length, right_sum, sound_line}
 use Rattle.hexadecimal.specs.Digits.{byte_of, told_byte, digits_at}
-use Rattle.hexadecimal.proofs.Laws.{byte-yes, byte-under, byte-over, digits-next, length_digits, all_two, bytes-two, digits-stop, and-true, and-false}
+use Rattle.hexadecimal.proofs.Laws.{byte-yes, byte-under, byte-over, digits-next, length_digits, all_two, bytes-two, digits-stop}
 use Rattle.state_lines.specs.Sums.{digits_sum, told_sum}
-
-and_assoc : (a b c : Bool) → a && b && c ≡ a && (b && c)
-and_assoc true b c = refl
-and_assoc false b c = refl
-
-and_right : (b : Bool) → b && true ≡ b
-and_right true = refl
-and_right false = refl
 
 -- ---- the sum
 
@@ -63,7 +55,7 @@ module _ (l : List ℕ) (n j s : ℕ) (r : Summed l j s) (there : 2 * n ≤ leng
       let both : is_digit u && is_digit v ≡ true = byte-under u v (rw (← e) h) in
       let next : digits_at l 0 (j + 1) ≡ D ++ (u ∷ v ∷ []) = digits-next l 0 j more ∙ ap (λ (m : ℕ). D ++ (get_or l m 0 ∷ get_or l (1 + m) 0 ∷ [])) z in
       let long = length_digits l 0 j more in
-      let yes : is_digit u && (is_digit v && true) ≡ true = and-true (is_digit u) (is_digit v) both in
+      let yes : is_digit u && (is_digit v && true) ≡ true = ap (λ (z : Bool). is_digit u && z) (and-true (is_digit v)) ∙ both in
       let value : b ≡ 16 * digit_value u + digit_value v = e ∙ sym (byte-yes u v both) in
       let total : sum (bytes_in (digits_at l 0 (j + 1))) ≡ sum (bytes_in D) + b =
       ap (λ (m : List ℕ). sum (bytes_in m)) next ∙ ap sum (bytes-two j D u v long) ∙ ap (λ (m : ℕ). sum (bytes_in D ++ (m ∷ []))) (sym value)
@@ -230,7 +222,7 @@ module _ (l : List ℕ) (k : ℕ) (h : length l ≡ 2 * k + 1) where
 
   sound : is_line l ≡ true → right_sum B ≡ true → sound_line l ≡ right_length B
   unfolding sound_line
-  sound a b = rw (a, b) (and_right (right_length B))
+  sound a b = rw (a, b) (and-true (right_length B))
 
   pub out-all : (s high low : ℕ) (r : Bool) → get_or l (2 * k) 0 ≡ 10 → 5 ≤ k → s ≡ digits_sum l k → s ≡ 0 → high ≡ byte_of (get_or l 4 0) (get_or l 5 0)
       → low ≡ byte_of (get_or l 6 0) (get_or l 7 0) → r ≡ eqb k (5 + (256 * high + low)) → r ≡ sound_line l

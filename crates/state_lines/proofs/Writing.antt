@@ -11,17 +11,7 @@ use Rattle.hexadecimal.specs.Below.Frames.{framed, sum, check, front_bytes, fram
 use Rattle.hexadecimal.specs.Below.Saved.{file_contents}
 use Rattle.layout.specs.Cells.{two}
 use Rattle.lists.specs.ListLaws.{total-append}
-use Rattle.state_lines.specs.Kinds.{kind_number}
-use Rattle.state_lines.specs.declared.Kind.{Kind}
-use Rattle.state_lines.specs.declared.Kind.TheVariants as code
 use Rattle.hexadecimal.proofs.Laws.{length-hexadecimal, hexadecimal-append, hexadecimal-one, set-one}
-
-pub kind_below : (k : Kind) → kind_number k < 256
-kind_below code.Head = omega arith
-kind_below code.Expression = omega arith
-kind_below code.File = omega arith
-kind_below code.Output = omega arith
-kind_below code.Stack = omega arith
 
 -- a run behind the first k bytes
 next : (d : List ℕ) (at k : ℕ) (s t d₁ d₂ : List ℕ) → d₁ ≡ pasted d at s → length s ≡ k → at + (k + length t) ≤ length d → d₂ ≡ pasted d₁ (at + k) t → d₂ ≡ pasted d at (s ++ t)

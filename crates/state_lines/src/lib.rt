@@ -5,14 +5,13 @@ ghost use Rattle.std.specs.Prelude.{◌≡◌, [], ◌∷◌, ◌++◌, ◌+◌,
 ghost use Rattle.cells.specs.Cells.{pasted, Number};
 ghost use Rattle.hexadecimal.specs.Below.Hexadecimal.{two_digits, hexadecimal};
 ghost use Rattle.hexadecimal.specs.Below.Frames.{framed, frame_line, sound_line, sound_text};
-ghost use Rattle.state_lines.specs.Kinds.{kind_number};
 ghost use Rattle.state_lines.specs.Lengths.{Measured, contents_length};
 ghost use Rattle.state_lines.specs.Sums.{told_sum};
 ghost use Rattle.state_lines.specs.Writing.{FrontRoom, FrameRoom, EndRoom, LengthsRoom, FileRoom};
 ghost use Rattle.hexadecimal.specs.Below.Saved.{file_contents};
 
 // The kinds of frames, by the numbers that frames have for them.
-#[derive(Clone, Copy, PartialEq, Eq)]
+#[derive(Clone, Copy, Debug, PartialEq, Eq)]
 pub enum Kind {
     Head = 1,
     Expression = 2,
@@ -21,33 +20,33 @@ pub enum Kind {
     Stack = 5,
 }
 
-impl From<Kind> for usize {
+impl From<Kind> for u8 {
     ghost use Rattle.std.specs.Prelude.{◌≡◌};
     ghost use Rattle.state_lines.specs.Kinds.{kind_number};
 
     ghost from_gives = { λ k n. n ≡ kind_number k };
 
-    fn from(k: Kind) -> usize {
-        k as usize
+    fn from(k: Kind) -> u8 {
+        k as u8
     }
 }
 
-// Which frame of a state: its kind, and its index.
-#[derive(Clone, Copy, PartialEq, Eq)]
+// Which frame: the number of its kind, and its index. A state has frames of the five kinds alone, but a line is written for any byte.
+#[derive(Clone, Copy, Debug, PartialEq, Eq)]
 pub struct Slot {
-    pub kind: Kind,
+    pub kind: u8,
     pub index: usize,
 }
 
 // Those of which a state has one.
 impl Slot {
     pub const HEAD: Slot = Slot {
-        kind: Kind::Head,
+        kind: Kind::Head as u8,
         index: 0,
     };
 
     pub const STACK: Slot = Slot {
-        kind: Kind::Stack,
+        kind: Kind::Stack as u8,
         index: 0,
     };
 }
@@ -66,7 +65,7 @@ pub fn line_length(n: usize) -> usize
 // Writes a frame's first four bytes: its kind, its index, and the length `n` of its contents, high byte first.
 fn put_front(dst: &mut [u8], at: usize, slot: Slot, n: usize)
     requires { FrontRoom (length dst.old) at slot.index n }
-    ensures { dst.new ≡ pasted dst.old at (hexadecimal (kind_number slot.kind ∷ slot.index ∷ n / 256 ∷ n % 256 ∷ [])) }
+    ensures { dst.new ≡ pasted dst.old at (hexadecimal (slot.kind ∷ slot.index ∷ n / 256 ∷ n % 256 ∷ [])) }
 {
     hexadecimal::put_byte(dst, at, usize::from(slot.kind));
     hexadecimal::put_byte(dst, at + 2, slot.index);
@@ -86,7 +85,7 @@ fn put_end(dst: &mut [u8], at: usize, sum: usize)
 // Writes a frame as a line of 11 bytes and two for each of its contents.
 pub fn put_frame(dst: &mut [u8], at: usize, slot: Slot, contents: &[u8])
     requires { FrameRoom (length dst.old) at slot.index (length contents.now) }
-    ensures { dst.new ≡ pasted dst.old at (frame_line (framed (kind_number slot.kind) slot.index contents.now)) }
+    ensures { dst.new ≡ pasted dst.old at (frame_line (framed slot.kind slot.index contents.now)) }
 {
     let n = contents.len();
     let front = (usize::from(slot.kind) + (slot.index + (n / 256 + n % 256))) % 256;
@@ -97,14 +96,10 @@ pub fn put_frame(dst: &mut [u8], at: usize, slot: Slot, contents: &[u8])
 }
 
 // Writes the first six bytes of a file's frame: the four, with the length `n`, and the length `k` of the records before the pointer.
-fn put_lengths(dst: &mut [u8], at: usize, index: usize, n: usize, k: usize)
-    requires { LengthsRoom (length dst.old) at index n k }
-    ensures { dst.new ≡ pasted dst.old at (hexadecimal (3 ∷ index ∷ n / 256 ∷ n % 256 ∷ k % 256 ∷ k / 256 ∷ [])) }
+fn put_lengths(dst: &mut [u8], at: usize, slot: Slot, n: usize, k: usize)
+    requires { LengthsRoom (length dst.old) at slot.index n k }
+    ensures { dst.new ≡ pasted dst.old at (hexadecimal (slot.kind ∷ slot.index ∷ n / 256 ∷ n % 256 ∷ k % 256 ∷ k / 256 ∷ [])) }
 {
-    let slot = Slot {
-        kind: Kind::File,
-        index,
-    };
     put_front(dst, at, slot, n);
     hexadecimal::put_byte(dst, at + 8, k % 256);
     hexadecimal::put_byte(dst, at + 10, k / 256);
@@ -117,11 +112,15 @@ pub fn put_file(dst: &mut [u8], at: usize, index: usize, before: &[u8], after: &
 {
     let k = before.len();
     let n = 2 + (k + after.len());
-    let front = (usize::from(Kind::File) + (index + (n / 256 + (n % 256 + (k % 256 + k / 256)))))
+    let slot = Slot {
+        kind: u8::from(Kind::File),
+        index,
+    };
+    let front = (usize::from(slot.kind) + (index + (n / 256 + (n % 256 + (k % 256 + k / 256)))))
         % 256;
     let sum = hexadecimal::sum_from(front, before);
     let all = hexadecimal::sum_from(sum, after);
-    put_lengths(dst, at, index, n, k);
+    put_lengths(dst, at, slot, n, k);
     hexadecimal::put_bytes(dst, at + 12, before);
     hexadecimal::put_bytes(dst, at + (12 + 2 * k), after);
     put_end(dst, at + (8 + 2 * n), all);

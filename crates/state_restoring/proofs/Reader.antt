@@ -10,6 +10,7 @@ use lib.Dec.{T, le→leb}
 use lib.ListN.{length, drop, replicate, length-replicate}
 use lib.Seq.{take_all}
 use borrow.Author.Tests.{le-leb, lt-leb}
+use Rattle.lists.specs.BoolLaws.{same_test}
 use Rattle.calls.specs.Filling.{Taken, taken_number, taken_with}
 use Rattle.cells.specs.Cells.{pasted}
 use Rattle.calls.specs.Questions.{question_number, numbered}
@@ -19,7 +20,6 @@ use Rattle.check_calls.specs.Asked.{told_by, first_no}
 use Rattle.check_calls.specs.AskedLaws.{both_yes, some}
 use Rattle.check_memory.proofs.Steps.{passed}
 use Rattle.check_state.specs.Asked.{Asked}
-use Rattle.check_strings.proofs.ComponentWalks.{same_test}
 use Rattle.language.specs.Limits as limit
 use Rattle.language.specs.Program.{Program}
 use Rattle.language.specs.Values.{State, Inputs}

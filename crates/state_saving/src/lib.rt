@@ -24,8 +24,8 @@ pub const SAVED: usize = 47754;
 // Writes the frame of contents, unless they are empty, and tells where the next begins. A place goes in and the next one comes out, here and below: the
 // row is a local of the caller and of fixed size, since there is no heap for one that grows.
 fn put_some(out: &mut [u8], at: usize, slot: Slot, contents: &[u8]) -> usize
-    requires { FrameFits (framed (kind_number slot.kind) slot.index contents.now) at (length out.old) }
-    ensures { Appended (framed (kind_number slot.kind) slot.index contents.now ∷ []) at result out.old out.new }
+    requires { FrameFits (framed slot.kind slot.index contents.now) at (length out.old) }
+    ensures { Appended (framed slot.kind slot.index contents.now ∷ []) at result out.old out.new }
 {
     let n = contents.len();
     if n == 0 {
@@ -63,7 +63,10 @@ fn put_strings(
     let mut at = from;
     for i in 0..count {
         let v = memory.string(first + i);
-        let slot = Slot { kind, index: i + 1 };
+        let slot = Slot {
+            kind: u8::from(kind),
+            index: i + 1,
+        };
         at = put_some(out, at, slot, v);
     }
     at

@@ -2,14 +2,13 @@
 use Rattle.std.proofs.Common.{rules, ◌≡◌, ◌<◌, length, None}
 use native.Mathlib.Omega.{arith}
 use mathlib.Core.Path.{refl}
-use Rattle.state_lines.specs.Kinds.{kind_number}
 use Rattle.state_contents.proofs.Gathering.{measured, gathering-none, next, split-fits, lined, gathering-none-more, gathering-more, gathering-all}
 use Rattle.state_contents.proofs.contents.Goals as goal
 
 pub loop-rest-init : goal.loop-rest-init
 loop-rest-init c =
     let a = c.args in
-    (refl, gathering-none a.text.now (kind_number a.slot.kind) a.slot.index a.row.now c.requires)
+    (refl, gathering-none a.text.now a.slot.kind a.slot.index a.row.now c.requires)
 
 pub contents_length-size-requires : goal.contents_length-size-requires
 contents_length-size-requires c =

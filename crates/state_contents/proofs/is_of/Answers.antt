@@ -22,5 +22,5 @@ returns c =
     let kind = told-byte-some _ _ c.unwrap-kind.result (sym c.byte_at.ensures ∙ c.unwrap-kind.ensures) in
     let index = told-byte-some _ _ c.unwrap-index.result (sym c.byte_at-2.ensures ∙ c.unwrap-index.ensures) in
     record {
-      frame = λ f b. rw (c.from.ensures, c.from-2.ensures ∙ kind.0 ∙ kind-there b, c.from-3.ensures ∙ index.0 ∙ index-there b) refl;
+      frame = λ f b. rw (kind.0 ∙ kind-there b, c.from.ensures ∙ index.0 ∙ index-there b) refl;
     }

@@ -1,6 +1,6 @@
 -- `state_contents::string` meets its contract.
 use mathlib.Core.Path.{◌∙◌}
-use Rattle.state_contents.proofs.Finding.{expr-stands, file-stands, stack-stands, output-stands}
+use Rattle.state_contents.proofs.Finding.{standing-by, expr-stands, file-stands, stack-stands, output-stands}
 use native.Mathlib.Omega.{arith}
 use Rattle.state_contents.proofs.string.Goals as goal
 
@@ -11,7 +11,7 @@ pub returns-then-j-lt-FIRST_FILE : goal.returns-then-j-lt-FIRST_FILE
 returns-then-j-lt-FIRST_FILE c =
     let a = c.args in
     let w = c.whole in
-    expr-stands a.text.now a.j ((omega arith) ∙ c.requires.room) c.if-j-lt-FIRST_FILE.true w.ensures
+    expr-stands a.text.now a.j ((omega arith) ∙ c.requires.room) c.if-j-lt-FIRST_FILE.true (standing-by _ _ c.from.ensures w.ensures)
 
 pub half-requires : goal.half-requires
 half-requires c = c.requires.sound
@@ -38,4 +38,4 @@ pub returns : goal.returns
 returns c =
     let a = c.args in
     let w = c.whole-2 in
-    output-stands a.text.now a.j ((omega arith) ∙ c.requires.room) (omega (arith, c.if-j-lt-STACK_STRING.false, c.if-j-eq-STACK_STRING.false)) c.requires.one w.ensures
+    output-stands a.text.now a.j ((omega arith) ∙ c.requires.room) (omega (arith, c.if-j-lt-STACK_STRING.false, c.if-j-eq-STACK_STRING.false)) c.requires.one (standing-by _ _ c.from-2.ensures w.ensures)

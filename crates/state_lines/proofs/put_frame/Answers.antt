@@ -3,7 +3,6 @@ use mathlib.Core.Path.{ap, ◌∙◌}
 use Prim.Native.Nat.{ℕ, ◌+◌, ◌/◌, ◌%◌}
 use lib.ListN.{length}
 use Rattle.hexadecimal.specs.Below.Frames.{sum}
-use Rattle.state_lines.specs.Kinds.{kind_number}
 use Rattle.state_lines.proofs.Writing.{frame-put}
 use Rattle.state_lines.proofs.put_frame.Goals as goal
 
@@ -13,4 +12,4 @@ returns c =
     let w = a.contents.now in
     let n = length w in
     let total = c.sum_from-sum.ensures.is ∙ ap (λ (k : ℕ). ((k + (a.slot.index + (n / 256 + n % 256))) % 256 + sum w) % 256) c.from.ensures in
-    frame-put a.dst.now a.at (kind_number a.slot.kind) a.slot.index w c.requires.room c.sum_from-sum.result c.put_front.new.dst c.put_bytes.new.dst c.put_end.new.dst total c.put_front.ensures c.put_bytes.ensures c.put_end.ensures
+    frame-put a.dst.now a.at a.slot.kind a.slot.index w c.requires.room c.sum_from-sum.result c.put_front.new.dst c.put_bytes.new.dst c.put_end.new.dst total c.put_front.ensures c.put_bytes.ensures c.put_end.ensures

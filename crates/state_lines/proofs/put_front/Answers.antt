@@ -1,15 +1,11 @@
 -- `state_lines::put_front` meets its contract.
-use native.Mathlib.Omega.{arith}
 use mathlib.Core.List.{[], ◌∷◌}
 use mathlib.Core.Path.{◌≡◌, subst}
 use Prim.Native.Nat.{◌/◌, ◌%◌}
 use Rattle.cells.specs.Cells.{pasted}
 use Rattle.hexadecimal.specs.Below.Hexadecimal.{hexadecimal}
-use Rattle.state_lines.proofs.Writing.{kind_below, front-put}
+use Rattle.state_lines.proofs.Writing.{front-put}
 use Rattle.state_lines.proofs.put_front.Goals as goal
-
-pub put_byte-requires : goal.put_byte-requires
-put_byte-requires c = record { room = omega (arith, c.requires.room); most = omega (arith, c.from.ensures, kind_below c.args.slot.kind) }
 
 pub returns : goal.returns
 returns c =

@@ -7,32 +7,20 @@ pub loop-i-init : goal.loop-i-init
 loop-i-init c = expressions-none c.args.self.now
 
 pub count-t-requires : goal.count-t-requires
-count-t-requires c =
-    let pre = c.requires in
-    record { whole = whole-expression pre (omega arith) c.string-v.ensures; fitting = tt }
+count-t-requires c = record { whole = whole-expression c.requires (omega arith) c.string-v.ensures; fitting = tt }
 
 pub overflow_add-parts : goal.overflow_add-parts
 overflow_add-parts c =
-    let pre = c.requires in
-    let loop = c.loop-i in
-    let string-at = c.string-v in
-    omega (arith, loop.invariant.parts.most, (taken-all pre (omega arith) string-at.ensures c.count-t.ensures).parts_most, (taken-all pre (omega arith) string-at.ensures c.count-t.ensures).bytes_most, string-at.ensures.small)
+    let t = taken-all c.requires (omega arith) c.string-v.ensures c.count-t.ensures in
+    omega (arith, c.loop-i.invariant.parts.most, t.parts_most, t.bytes_most, c.string-v.ensures.small)
 
 pub overflow_add-chars : goal.overflow_add-chars
 overflow_add-chars c =
-    let pre = c.requires in
-    let loop = c.loop-i in
-    let string-at = c.string-v in
-    let count = c.count-t in
-    omega (arith, loop.invariant.chars.most, (taken-all pre (omega arith) string-at.ensures count.ensures).chars_most, (taken-all pre (omega arith) string-at.ensures count.ensures).bytes_most, string-at.ensures.small)
+    let t = taken-all c.requires (omega arith) c.string-v.ensures c.count-t.ensures in
+    omega (arith, c.loop-i.invariant.chars.most, t.chars_most, t.bytes_most, c.string-v.ensures.small)
 
 pub loop-i-preserved : goal.loop-i-preserved
-loop-i-preserved c =
-    let pre = c.requires in
-    let loop = c.loop-i in
-    let string-at = c.string-v in
-    let count = c.count-t in
-    expressions-next pre (omega arith) string-at.ensures loop.invariant count.ensures
+loop-i-preserved c = expressions-next c.requires (omega arith) c.string-v.ensures c.loop-i.invariant c.count-t.ensures
 
 pub returns : goal.returns
 returns c = expressions-sums c.loop-i.invariant (omega arith)

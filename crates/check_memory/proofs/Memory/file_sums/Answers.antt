@@ -10,39 +10,19 @@ pub totals_of-t-requires : goal.totals_of-t-requires
 totals_of-t-requires c = whole-half c.requires (omega arith) c.string-v.ensures
 
 pub count-q-requires : goal.count-q-requires
-count-q-requires c =
-    let pre = c.requires in
-    record { whole = whole-half pre (omega arith) c.string-v.ensures; fitting = tt }
+count-q-requires c = record { whole = whole-half c.requires (omega arith) c.string-v.ensures; fitting = tt }
 
 pub overflow_add-parts : goal.overflow_add-parts
-overflow_add-parts c =
-    let loop = c.loop-i in
-    let string-at = c.string-v in
-    let totals-of = c.totals_of-t in
-    omega (arith, loop.invariant.parts.most, totals-of.ensures.parts_most, string-at.ensures.small)
+overflow_add-parts c = omega (arith, c.loop-i.invariant.parts.most, c.totals_of-t.ensures.parts_most, c.string-v.ensures.small)
 
 pub overflow_add-chars : goal.overflow_add-chars
-overflow_add-chars c =
-    let loop = c.loop-i in
-    let string-at = c.string-v in
-    let totals-of = c.totals_of-t in
-    omega (arith, loop.invariant.chars.most, totals-of.ensures.chars_most, string-at.ensures.small)
+overflow_add-chars c = omega (arith, c.loop-i.invariant.chars.most, c.totals_of-t.ensures.chars_most, c.string-v.ensures.small)
 
 pub overflow_add-records : goal.overflow_add-records
-overflow_add-records c =
-    let loop = c.loop-i in
-    let string-at = c.string-v in
-    let count = c.count-q in
-    omega (arith, loop.invariant.count.most, count_is count.ensures, string-at.ensures.small)
+overflow_add-records c = omega (arith, c.loop-i.invariant.count.most, count_is c.count-q.ensures, c.string-v.ensures.small)
 
 pub loop-i-preserved : goal.loop-i-preserved
-loop-i-preserved c =
-    let pre = c.requires in
-    let loop = c.loop-i in
-    let string-at = c.string-v in
-    let totals-of = c.totals_of-t in
-    let count = c.count-q in
-    halves-next pre (omega arith) string-at.ensures loop.invariant totals-of.ensures count.ensures
+loop-i-preserved c = halves-next c.requires (omega arith) c.string-v.ensures c.loop-i.invariant c.totals_of-t.ensures c.count-q.ensures
 
 pub returns : goal.returns
 returns c = halves-sums c.loop-i.invariant (omega arith)
