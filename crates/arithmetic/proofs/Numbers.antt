@@ -8,10 +8,11 @@ use lib.Dec.{ltb}
 use lib.IntN.{ℤ, pos, negsuc, nat_abs, neg_ℤ, sub_ℕ, ◌+ℤ◌}
 use lib.Signed.{quot_z, rem_z}
 use borrow.Author.Tests.{ltb-true, ltb-false, le-leb, lt-leb}
+use Rattle.layout.specs.CodeLaws.{uncode-most}
 use Rattle.language.specs.Values.{in_range}
 use Rattle.layout.specs.Cells.{code, uncode}
 use Rattle.layout.proofs.CellLaws.{uncode-code}
-use Rattle.operands.proofs.Codes.{code_most, code-back, abs-most}
+use Rattle.operands.proofs.Codes.{code_most, code-back}
 use Rattle.components.proofs.FirstLaws.{low, high}
 use Rattle.std.specs.Prelude.{Ok, Err}
 use Rattle.instructions.specs.declared.Question.TheVariants.{Range}
@@ -86,7 +87,7 @@ offset-sum (negsuc m) (pos n) {a} {b} p q h k = offset-sub n (suc m) (a + b) (om
 offset-sum (negsuc m) (negsuc n) p q h k = omega (arith, p, q, h, k)
 
 coded-sum : {a b : ℕ} → Coded a b → Offset (uncode a +ℤ uncode b) (a + b)
-coded-sum {a} {b} h = offset-sum (uncode a) (uncode b) (code-back a h.left) (code-back b h.right) (abs-most a h.left) (abs-most b h.right)
+coded-sum {a} {b} h = offset-sum (uncode a) (uncode b) (code-back a h.left) (code-back b h.right) (uncode-most a h.left) (uncode-most b h.right)
 
 offset-low : (z : ℤ) (s : ℕ) → Offset z s → s < 8388607 → 8388607 < nat_abs z
 offset-low (pos k) s h l = absurd (omega (arith, h, l))
@@ -161,4 +162,4 @@ divided-in x y h = (
 )
 
 pub size_is : (b : ℕ) → b ≤ 16777214 → Size b (nat_abs (uncode b))
-size_is b h = record { is = refl; most = abs-most b h }
+size_is b h = record { is = refl; most = uncode-most b h }

@@ -7,6 +7,7 @@ use native.Mathlib.Omega.{arith}
 use lib.ListN.{length, take, drop, length-append}
 use lib.Seq.{take_at}
 use lib.IntN.{ℤ}
+use Rattle.layout.specs.CodeLaws.{uncode-most}
 use Rattle.language.specs.Values.{Component, State}
 use Rattle.layout.specs.Bounds.{Encoded}
 use Rattle.layout.specs.Cells.{uncode}
@@ -17,7 +18,6 @@ use Rattle.cells.proofs.Laws.{pasted-front}
 use Rattle.state.specs.Working.{char_count}
 use Rattle.instructions.specs.Does.{Tried}
 use Rattle.operands.specs.Operands.{replaced, Replaceable}
-use Rattle.operands.proofs.Codes.{abs-most}
 use Rattle.operands.proofs.Held.{number-held}
 use Rattle.arithmetic.specs.Arithmetic.{Numbered, OneResult, TwoResults}
 
@@ -33,7 +33,7 @@ unfolding components_bytes
 two-encoded c d h k =
     record {
       is = ap (λ (l : List ℕ). component_bytes (Component.number (uncode c)) ++ l) (sym (append-nil (component_bytes (Component.number (uncode d)))));
-      all_ok = (abs-most c h, (abs-most d k, tt));
+      all_ok = (uncode-most c h, (uncode-most d k, tt));
     }
 
 -- a second part behind the first

@@ -9,6 +9,7 @@ use lib.ListN.{length}
 use lib.IntN.{ℤ, nat_abs}
 use lib.Signed.{quot_z, rem_z}
 use borrow.Author.Tests.{le-leb, ne_eqb}
+use Rattle.layout.specs.CodeLaws.{uncode-most}
 use Rattle.lists.specs.Lists.{all}
 use Rattle.language.specs.Instructions.{two_numbers, kinds_of}
 use Rattle.language.specs.Limits as limit
@@ -34,7 +35,6 @@ use Rattle.instructions.specs.declared.Question.{Question}
 use Rattle.instructions.proofs.Asking.{some}
 use Rattle.operands.specs.Operands.{Both, ReadsPair, replaced, DoesWith}
 use Rattle.operands.specs.declared.Pair.{Pair}
-use Rattle.operands.proofs.Codes.{abs-most}
 use Rattle.components.proofs.FirstLaws.{high}
 use Rattle.operands.proofs.Reading.{wordless}
 use Rattle.operands.proofs.Replacing.{replaced-last, left-first}
@@ -299,7 +299,7 @@ module _ {σ : State} (h : Stands σ) (i : ℕ) (a : Argument) where
 
     module _ {p : Pair} (e : r ≡ Ok p) where
       dividend_most : nat_abs (uncode p.left) ≤ 8388607
-      dividend_most = abs-most p.left (both_coded w e).left
+      dividend_most = uncode-most p.left (both_coded w e).left
 
       pub dziel-zeros : p.right ≡ 8388607 → DoesWith σ 55 σ (rows DZIEL)
       dziel-zeros o c g ins =

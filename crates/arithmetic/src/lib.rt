@@ -120,9 +120,9 @@ fn put_one(bench: &mut Bench, i: usize, code: usize) -> Result<(), Question>
     operands::replace(
         &mut bench.state,
         source,
-        operands::NUMBER,
+        Amount::SHORT,
         &bench.hold[..5],
-        operands::NUMBER,
+        Amount::SHORT,
     )
 }
 
@@ -143,7 +143,7 @@ fn put_two(bench: &mut Bench, i: usize, first: usize, second: usize) -> Result<(
     operands::replace(
         &mut bench.state,
         source,
-        operands::NUMBER,
+        Amount::SHORT,
         &bench.hold[..10],
         two,
     )

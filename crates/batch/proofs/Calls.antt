@@ -7,6 +7,8 @@ use native.Mathlib.Omega.{arith}
 use lib.Dec.{T}
 use lib.ListN.{length}
 use borrow.Author.Tests.{ne_eqb, le-leb}
+use Rattle.std.specs.Bool.{passes}
+use lib.Ieee.Bits.{is_true}
 use Rattle.language.specs.Limits as limit
 use Rattle.language.specs.Program.{Program}
 use Rattle.language.specs.Values.{State, Inputs}
@@ -28,20 +30,13 @@ use Rattle.calls.specs.Calls.{packed, Result, Reply, reply_number, reply_count, 
 use Rattle.calls.specs.Calls.Call.{start_on, run_on}
 use Rattle.calls.proofs.OrderLaws.{refused_as, is-62, is-61, is-accepted}
 use Rattle.calls.proofs.CallLaws.{run_ends}
-use Rattle.calls.proofs.AnswerLaws.{number_most, count-within, packed-number, packed-value}
+use Rattle.calls.proofs.AnswerLaws.{number_most, count-within, packed-number, packed-value, count-told}
 use Rattle.interpreter.specs.Answers.{Answers}
 use Rattle.viewing.specs.Viewing.{Rests}
 use Rattle.console.specs.Console.{budget, refusal_line, ran_bytes, program_bytes}
 use Rattle.console.specs.Parts.{Put, answer_by}
 use Rattle.console.proofs.Putting.{put_same}
 use Rattle.batch.specs.Printed.{table_bytes, Ended}
-
-true_of : {b : Bool} → b ≡ true → T b
-true_of e = subst T (sym e) tt
-
-is_true : (b : Bool) → T b → b ≡ true
-is_true true h = refl
-is_true false h = absurd h
 
 -- an answer with no value, read back
 upper : {r n : ℕ} → r ≡ packed n 0 → r / 4294967296 ≡ n
@@ -116,10 +111,10 @@ module _ {c m : List ℕ} {ins : Inputs} {m₁ : List ℕ} (long : limit.state �
   p = program_of c
 
   gp : T (good_program p)
-  gp = (table-facts c (true_of b.table)).good
+  gp = (table-facts c (passes _ b.table)).good
 
   gi : T (good_inputs ins)
-  gi = true_of b.right
+  gi = passes _ b.right
 
   gs : T (good_state p ins started)
   gs = started-good p ins gp
@@ -173,7 +168,7 @@ module _ {c m : List ℕ} {ins : Inputs} {m₁ : List ℕ} (long : limit.state �
 
   ended : {d : ℕ} → 4224 ≤ d → Ended c m₂ (r / 4294967296) (r % 4294967296) d
   ended room = record {
-    good = true_of b.table;
+    good = passes _ b.table;
     rests = rests;
     next = rw left (open-state p ins x.state gx).next;
     number_most = rw number_is number_low;
@@ -189,21 +184,17 @@ module _ {c m : List ℕ} {ins : Inputs} {m₁ : List ℕ} (long : limit.state �
 
   answer-is : answer_by (r / 4294967296) ≡ x.answer
   answer-is =
-      let u = run_ends c m₁ (true_of b.table) ins gi memory budget in
+      let u = run_ends c m₁ (passes _ b.table) ins gi memory budget in
       let e = is-accepted c m₁ (run_on ins budget) b.table b.right (is_true (good_memory p ins m₁) memory) in
       let k : reply_number reply ≡ 81 → reply_count reply ≡ budget =
       subst (λ y. reply_number y.reply ≡ 81 → reply_count y.reply ≡ budget) (sym e ∙ made) u.pauses.0 in
       ap answer_by number_is ∙ not-pause x.answer x.count (run-lawful (step p ins) budget started).says k
 
-  same_count : (a : Answer) (n : ℕ) → reply_count (run_reply a n) ≡ n
-  same_count pause n = refl
-  same_count (stopped s) n = refl
-
   table_is : table_bytes c ins ≡ ran_bytes p x
   table_is = bytes_run c ins b.table ∙ bytes-by c ins true b.right
 
   run-printed : ran_bytes p (ran (answer_by (r / 4294967296)) (r % 4294967296) (state_of m₂)) ≡ table_bytes c ins
-  run-printed = joint (same-run p x answer-is (count_is ∙ same_count x.answer x.count) left) table_is
+  run-printed = joint (same-run p x answer-is (count_is ∙ count-told x.answer x.count) left) table_is
 
   module _ {n v : ℕ} (e : n ≡ r / 4294967296) (f : v ≡ r % 4294967296) where
     pub ended-as : {d : ℕ} → 4224 ≤ d → Ended c m₂ n v d

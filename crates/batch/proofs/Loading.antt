@@ -1,12 +1,12 @@
 -- What load answers and leaves, and what is printed then.
 use mathlib.Core.Path.{◌≡◌, refl, ap, sym, ◌∙◌}
-use mathlib.Core.Bool.{Bool, true, false, cond}
+use mathlib.Core.Bool.{true, cond}
 use mathlib.Core.List.{List, [], ◌∷◌, ◌++◌}
-use Prim.Native.Nat.{ℕ, ◌-◌, ◌/◌, ◌%◌, ◌≤◌}
+use Prim.Native.Nat.{ℕ, ◌/◌, ◌%◌, ◌≤◌}
 use native.Mathlib.Omega.{arith}
 use lib.Dec.{T}
-use lib.ListN.{length, take, drop, length-drop}
-use lib.Seq.{take_all}
+use lib.ListN.{length, take, drop}
+use lib.Ieee.Bits.{is_true}
 use Rattle.language.specs.Limits as limit
 use Rattle.language.specs.Values.{Inputs}
 use Rattle.machine.specs.WellFormed.{good_program}
@@ -22,10 +22,6 @@ use Rattle.console.specs.Console.{text_of, input_of, refusal_line, program_bytes
 use Rattle.console.specs.Parts.{Put, TextEnd, RefusalRoom}
 use Rattle.console.proofs.Putting.{put_same}
 use Rattle.batch.specs.Printed.{table_bytes}
-
--- what is behind the text
-pub rest_is : (s : List ℕ) (at : ℕ) → take (length s - at) (drop at s) ≡ drop at s
-rest_is s at = take_all (length s - at) (drop at s) (rw length-drop (omega arith))
 
 -- ---- what is printed
 
@@ -46,10 +42,6 @@ accepted-bytes s ins h c =
     let t : good_table (table_cells p ++ d) ≡ true = is_true (good_table (table_cells p ++ d)) (table_good p gp d) in
     let q : program_of (table_cells p ++ d) ≡ p = program_of-cells p gp d in
     rw e (ap (λ t. cond t (program_bytes (program_of (table_cells p ++ d)) ins) (refusal_line 62 0)) t ∙ ap (λ p. program_bytes p ins) q)
-  where
-    is_true : (b : Bool) → T b → b ≡ true
-    is_true true h = refl
-    is_true false h = absurd h
 
 module _ (s : List ℕ) {at : ℕ} (e : TextEnd s at) (text c : List ℕ) (t : text ≡ take at s) (cells : length c ≡ limit.table)
     {r : ℕ} (h : r ≡ load_answer (load_in (length c) text)) {n : ℕ} (k : n ≡ r / 4294967296) where

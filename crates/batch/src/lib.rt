@@ -15,9 +15,8 @@ use table::Table;
 // "It runs 100,000 steps."
 const BUDGET: u32 = 100_000;
 
-// The number of an accepted start.
-// A number and no enum: the answers of load and start come as C gets them.
-const ACCEPTED: usize = 80;
+// The number of an accepted load or start. A number and no enum: the answers come as C gets them. A constant calls no `usize::from`.
+const ACCEPTED: usize = interpreter::ACCEPTED as usize;
 
 // The number in the upper 32 bits of an answer, which comes as C gets it.
 fn number(answer: u64) -> usize

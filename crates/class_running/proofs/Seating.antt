@@ -8,6 +8,8 @@ use native.Mathlib.Omega.{arith}
 use lib.Dec.{T}
 use lib.ListN.{length, get_or, take, drop, take-append-drop}
 use borrow.Author.Tests.{le-leb}
+use Rattle.std.specs.Bool.{passes}
+use Rattle.calls.proofs.AnswerLaws.{count-told}
 use Rattle.language.specs.Limits as limit
 use Rattle.language.specs.Values.{State}
 use Rattle.machine.specs.Runs.{Answer, Run, run}
@@ -21,7 +23,7 @@ use Rattle.layout.proofs.MemoryLaws.{written_back, written-good, memory-facts}
 use Rattle.layout.specs.Table.{program_of}
 use Rattle.layout.proofs.TableLaws.{table-facts}
 use Rattle.cells.specs.Cells.{pasted}
-use Rattle.calls.specs.Calls.{reply_number, reply_count, run_reply}
+use Rattle.calls.specs.Calls.{reply_number, run_reply}
 use Rattle.running.specs.Running.{answer_number, stop_number, run_on, Runnable, RanOn}
 use Rattle.running.specs.declared.Ran.{Ran}
 use Rattle.viewing.specs.Viewing.{Rests, Shows}
@@ -31,19 +33,12 @@ use Rattle.class_running.specs.ClassRunning.{Showable, Shown, Seated, Answered}
 use Rattle.calls.specs.declared.Question.TheVariants as code
 use Rattle.std.specs.Prelude.{Ok, Err}
 
-pub is_true : {b : Bool} → b ≡ true → T b
-is_true e = subst T (sym e) tt
-
 pub shown-so : {m b b' l : List ℕ} {at r : ℕ} → Shows m l → b' ≡ pasted b at l → r ≡ length l → Shown m b at r b'
 shown-so {m} {b} {b'} {l} {at} s w e = record { is = w ∙ ap (pasted b at) s.is; length_is = e ∙ ap length s.is }
 
-number-told : (x : Answer) (n : ℕ) → reply_number (run_reply x n) ≡ answer_number x
+pub number-told : (x : Answer) (n : ℕ) → reply_number (run_reply x n) ≡ answer_number x
 number-told pause n = refl
 number-told (stopped s) n = refl
-
-count-told : (x : Answer) (n : ℕ) → reply_count (run_reply x n) ≡ n
-count-told pause n = refl
-count-told (stopped s) n = refl
 
 pub table-long : {c : List ℕ} {memory at bytes : ℕ} → Seated c memory at bytes → limit.table ≤ length c
 table-long {c} pre = (table-facts c pre.table).long
@@ -60,10 +55,10 @@ module _ {c : List ℕ} {memory at bytes : ℕ} (pre : Seated c memory at bytes)
 
   module _ (m : List ℕ) {x : Bool} (e : x ≡ good_inputs (inputs_of w)) (z : x ≡ true) (long : length m ≡ memory) {m₁ : List ℕ} (s : m₁ ≡ written started m) where
     gi : T (good_inputs (inputs_of w))
-    gi = is_true (sym e ∙ z)
+    gi = passes _ (sym e ∙ z)
 
     enough : T (long_enough m)
-    enough = is_true (le-leb limit.state (length m) (omega (arith, long, pre.long)))
+    enough = passes _ (le-leb limit.state (length m) (omega (arith, long, pre.long)))
 
     pub runnable : Runnable c w [] m₁
     runnable = record {

@@ -7,6 +7,7 @@ use native.Mathlib.Omega.{arith}
 use lib.Dec.{T}
 use lib.ListN.{length, get_or, take, drop}
 use lib.Seq.{take-suc, take_all, length-take-le}
+use Rattle.layout.proofs.StringLaws.{length-cut-by, cut_at}
 use Rattle.lists.specs.Lists.{if_any}
 use Rattle.language.specs.Limits as limit
 use Rattle.machine.specs.Steps.{refusals}
@@ -18,8 +19,8 @@ use Rattle.class_calls.specs.Class.{lent_of, Pupil, refused_pupil, pupil, Lent, 
 use Rattle.class_calls.specs.Class.ClassReply.{class_refused, taken}
 use Rattle.class_calls.proofs.ClassLaws.{q1-most}
 use Rattle.class_calls.proofs.FitLaws.{ClassFits, fits-facts}
-use Rattle.class_calls.proofs.UnawareLaws.{pupil-at, length-pupils, length_cut}
-use Rattle.class_calls.proofs.WritingLaws.{sum-next, sum-within, cut_at, results-none, results_next, AllShort, outputs-none, outputs-next}
+use Rattle.class_calls.proofs.UnawareLaws.{pupil-at, length-pupils}
+use Rattle.class_calls.proofs.WritingLaws.{sum-next, sum-within, results-none, results_next, AllShort, outputs-none, outputs-next}
 use Rattle.calls.specs.Questions.{numbered}
 use Rattle.calls.specs.declared.Question.{Question}
 use Rattle.calls.specs.declared.Question.TheVariants as code
@@ -52,7 +53,7 @@ module _ {c s ns bs res₀ out₀ : List ℕ} {memory₀ : ℕ} (pre : Classable
   facts = fits-facts (lent_of s ns bs res₀ out₀) pre.fits
 
   many : length ps ≡ length ns
-  many = length-pupils c (cut_by ns s) bs (facts.as_many ∙ sym (length_cut ns s)) ∙ length_cut ns s
+  many = length-pupils c (cut_by ns s) bs (facts.as_many ∙ sym (length-cut-by ns s)) ∙ length-cut-by ns s
 
   pub sit-begin : Sitting c s ns bs res₀ out₀ memory₀ res₀ out₀ memory₀ 0 0
   sit-begin = record {

@@ -1,13 +1,12 @@
 // What a relation compares with: the components that its second argument offers, put beside.
 #![tactic(auto)]
 
-ghost use Rattle.std.specs.Prelude.{[], ◌∷◌, ◌<◌, ◌≤◌, take};
-ghost use Rattle.language.specs.Letters as letters;
+ghost use Rattle.std.specs.Prelude.{[], ◌∷◌, ◌<◌, ◌≤◌};
 ghost use Rattle.language.specs.Limits as limit;
 ghost use Rattle.language.specs.Values as values;
-ghost use Rattle.machine.specs.Arguments.{expr, needs};
+ghost use Rattle.machine.specs.Arguments.{needs};
 ghost use Rattle.layout.specs.Cells.{uncode};
-ghost use Rattle.state.specs.Working.{nth};
+ghost use Rattle.instructions.specs.Fronts.{front_part};
 ghost use Rattle.tests.specs.Prepares.{Beside, PutBeside};
 ghost use Rattle.comparands.specs.Offers.{LetterHoldable, Holdable, LetterOffers, ArgumentOffers};
 
@@ -18,7 +17,7 @@ use table::Table;
 // N: the first component of expression `i`, a number.
 fn put_count(state: &Working, given: &mut [u8; 32768], i: usize) -> Result<usize, Question>
     requires { i < limit.expressions }
-    ensures { PutBeside (needs 1 (take 1 (expr state.now.store (nth letters.Letter.E i)))) (take 1 (expr state.now.store (nth letters.Letter.E i))) given.new result }
+    ensures { PutBeside (needs 1 (front_part state.now.store i)) (front_part state.now.store i) given.new result }
 {
     let code = operands::first_number(state, i)?;
     Ok(put_code(given, code))

@@ -21,10 +21,6 @@ use Rattle.console.specs.Parts.{Put, answer_by}
 pub put-long : {d x e : List ℕ} {at r : ℕ} → Put d at x e r → length e ≡ length d
 put-long {d} {x} {at = at} h = ap length h.is ∙ length-pasted d at x (omega (arith, h.count, h.fits))
 
--- what is printed at the front stands there
-pub put_front : {d x e : List ℕ} {r : ℕ} → Put d 0 x e r → take r e ≡ x
-put_front {d} {x} {r = r} h = ap (take r) h.is ∙ pasted-front d x r (omega (arith, h.count))
-
 pub put_then : {d x e y f : List ℕ} {at r q : ℕ} → Put d at x e r → Put e r y f q → Put d at (x ++ y) f q
 put_then {d} {x} {e} {y} {at = at} {r = r} h k =
     let long : length (x ++ y) ≡ length x + length y = length-append x y in

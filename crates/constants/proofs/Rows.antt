@@ -138,7 +138,7 @@ module _ {σ : State} (h : Stands σ) {a : Arg} {o : List ℕ} {parts bytes size
         → (reverses : Bool) → DoesFor σ 0 σ' (λ g ins. placed g ins reverses)
     expr-done {σ'} k reverses g ins =
         rw (row_is g ins reverses)
-        (plain_done h put (subst (λ (xs : List Component). HoldsState σ' (on_store (into (nth (writing at_end) j) xs) σ)) (components-of w.encoded) k))
+        (plain_done put (subst (λ (xs : List Component). HoldsState σ' (on_store (into (nth (writing at_end) j) xs) σ)) (components-of w.encoded) k))
 
   module _ (b : Bool) {j : ℕ} (d : j < limit.files) where
     abbrev filed : Program → Inputs → Row
@@ -206,7 +206,7 @@ module _ {σ : State} (h : Stands σ) {a : Arg} {o : List ℕ} {parts bytes size
 
         pub file-done : {σ' : State} → HoldsState σ' (on_store (stored (nth (filing b) j) (bodies b (take (bytes + 7) new))) σ)
             → DoesFor σ 0 σ' filed
-        file-done f g ins = rw (file-by g ins b) (plain_done h kept (lot-stored lot b d σ (λ t. t) refl same_store new-record f))
+        file-done f g ins = rw (file-by g ins b) (plain_done kept (lot-stored lot b d σ (λ t. t) refl same_store new-record f))
 
 -- ---- to an output
 
@@ -232,4 +232,4 @@ module _ {σ : State} (h : Stands σ) {v o z : List ℕ} {r : ℕ} (c : Copied v
   pub output-done : {σ' : State} → HoldsState σ' (on_store (printed (nth Q j) (take r z)) σ) → DoesFor σ 0 σ' printing
   output-done {σ' = σ'} k g ins =
       rw (row_output g ins)
-      (plain_done h (printed (nth Q j) v) (subst (λ (w : List ℕ). HoldsState σ' (on_store (printed (nth Q j) w) σ)) (copied_is c) k))
+      (plain_done (printed (nth Q j) v) (subst (λ (w : List ℕ). HoldsState σ' (on_store (printed (nth Q j) w) σ)) (copied_is c) k))

@@ -19,7 +19,6 @@ ghost use Rattle.constants.specs.Constants.{Puttable, Put, Placeable, TextPlacea
 use components::Amount;
 use instructions::{Bench, FileTarget, Question, Target};
 use language::Machine;
-use layout::StatePlaces;
 use table::{Table, TextRef};
 
 // Writes a text or number argument as a component at the front of `out`, and tells how much it is.
@@ -38,11 +37,7 @@ fn put_constant(table: Table, out: &mut [u8; 32768], arg: table::Argument) -> Am
         }
         table::Argument::Number(v) => {
             components::put_number(out, 0, v as usize);
-            Amount {
-                parts: 1,
-                bytes: 5,
-                chars: 0,
-            }
+            Amount::SHORT
         }
         _ => unreachable!(),
     }
@@ -80,7 +75,7 @@ pub fn umiesc_file(
     bench.state.stands();
     let c = put_constant(table, &mut bench.given, arg);
     transfers::room_for(&bench.state, 1, c, 1)?;
-    let last = bench.state.number(StatePlaces::LAST_SCALAR);
+    let last = bench.state.last();
     records::put_record(&mut bench.hold, last + 1, &bench.given[..c.bytes]);
     let bytes = c.bytes + 7;
     let record = Amount {

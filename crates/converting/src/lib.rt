@@ -62,15 +62,11 @@ pub fn slowo(bench: &mut Bench, source: Source) -> Result<(), Question>
 {
     let code = operands::first_number(&bench.state, source.i)?;
     let n = put_numeral(&mut bench.hold, code);
-    let word = Amount {
-        parts: 1,
-        bytes: 1 + n,
-        chars: n,
-    };
+    let word = Amount::word(n);
     operands::replace(
         &mut bench.state,
         source,
-        operands::NUMBER,
+        Amount::SHORT,
         &bench.hold[..1 + n],
         word,
     )
@@ -83,16 +79,12 @@ pub fn liczba(bench: &mut Bench, source: Source) -> Result<(), Question>
 {
     let w = first_numeral(&bench.state, source.i)?;
     components::put_number(&mut bench.hold, 0, w.code);
-    let word = Amount {
-        parts: 1,
-        bytes: 1 + w.letters,
-        chars: w.letters,
-    };
+    let word = Amount::word(w.letters);
     operands::replace(
         &mut bench.state,
         source,
         word,
         &bench.hold[..5],
-        operands::NUMBER,
+        Amount::SHORT,
     )
 }

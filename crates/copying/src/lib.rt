@@ -22,7 +22,6 @@ ghost use Rattle.copying.specs.Copies.{passed, copied, Droppable, Duplicable, Re
 
 use components::Amount;
 use instructions::{Bench, FileTarget, Question, Source};
-use layout::StatePlaces;
 use record_tests::RecordsPrepared;
 use records::RecordTest;
 use state::Working;
@@ -124,7 +123,7 @@ fn copy_taken(
     let bytes = t.end.bytes;
     let v = records::totals_of(&f[..bytes]);
     transfers::room_for(&bench.state, source.left(k), source.amount_left(v), k)?;
-    let last = bench.state.number(StatePlaces::LAST_SCALAR);
+    let last = bench.state.last();
     restamp(&mut bench.hold, &f[..bytes], last, target.reverses);
     filing::past_records(&mut bench.state, &mut bench.given, source, k, v);
     let new = &bench.hold[..bytes];

@@ -1,7 +1,7 @@
 -- Components that an argument means.
 use mathlib.Core.Path.{◌≡◌, refl, sym, ap, ◌∙◌, subst, fun_ext}
-use mathlib.Core.Bool.{Bool, true, false, cond, ◌||◌}
-use mathlib.Core.List.{List, [], ◌∷◌, map}
+use mathlib.Core.Bool.{Bool, true, false≢true, or-false}
+use mathlib.Core.List.{List, [], ◌∷◌, map-id}
 use Prim.Native.Nat.{ℕ, ◌≤◌, ◌<◌}
 use native.Mathlib.Omega.{arith}
 use lib.ListN.{length, take, drop, length-take, length-append}
@@ -15,7 +15,8 @@ use Rattle.layout.specs.Cells.{cell, uncode}
 use Rattle.layout.proofs.ComponentLaws.{next-component, component-some, whole-components, components-of}
 use Rattle.layout.specs.Components.{component_in, component_size, components_bytes, components_in}
 use Rattle.cells.specs.Cells.{Number}
-use Rattle.components.specs.Parts.{first_size, Leading, LentChars}
+use Rattle.components.specs.Parts.{first_size, Leading, AmountOfFirst}
+use Rattle.components.specs.declared.Amount.{Amount}
 use Rattle.matching.specs.Tests.{Took}
 use Rattle.matching.specs.declared.Taken.{Taken}
 use Rattle.state.specs.Working.{HoldsState, on_store, nth}
@@ -27,23 +28,12 @@ use Rattle.tests.proofs.Values.{front_fits, front-encoded}
 use Rattle.state.proofs.Fronts.{none-there, one-there}
 use Rattle.equality.specs.Equality.{until_by, related, settled}
 
-pub false-true : false ≡ true → ⊥
-false-true r = subst (λ (u : Bool). cond u ⊥ (Unit {0})) r tt
-
-map_same : (xs : List Component) → map (λ x. x) xs ≡ xs
-map_same [] = refl
-map_same (x ∷ xs) = ap (λ l. x ∷ l) (map_same xs)
-
-pub or-false : (b : Bool) → (b || false) ≡ b
-or-false true = refl
-or-false false = refl
-
 -- whether one of xs is met
 pub met : (c : List ℕ) (a : Argument) (ins : Inputs) (s : Store) (g : List ℕ) (xs : List Component) → components_in g ≡ side ins s (arg_of c a)
     → (taken (until_by a g) xs).1 ≡ any (matches (λ x. x) ins s (arg_of c a)) xs
 met c argument.Nothing ins s g xs e = rw e refl
 met c (argument.Indexed l n) ins s g xs e =
-    ap (λ (ys : List Component). any (λ x. any (same x) ys) xs) (e ∙ sym (map_same (side ins s (arg_of c (argument.Indexed l n)))))
+    ap (λ (ys : List Component). any (λ x. any (same x) ys) xs) (e ∙ sym (map-id (side ins s (arg_of c (argument.Indexed l n)))))
 met c (argument.Label k) ins s g xs e = rw e refl
 met c (argument.Switch k) ins s g xs e = rw e refl
 met c (argument.Class m) ins s g xs e = refl
@@ -61,7 +51,7 @@ module _ {σ : State} {i : ℕ} {x : List ℕ} (l : ExprLent σ i x) where
   es = expr σ.store (nth E i)
 
   pub some-there : filled es ≡ true → length x ≡ 0 → ⊥
-  some-there f z = false-true (sym (ap filled (none-there l z)) ∙ f)
+  some-there f z = false≢true (sym (ap filled (none-there l z)) ∙ f)
 
   pub filled-there : (length x ≡ 0 → ⊥) → filled es ≡ true
   filled-there z = rw (one-there l z) refl
@@ -79,14 +69,6 @@ module _ {σ : State} {i : ℕ} {x : List ℕ} (l : ExprLent σ i x) where
     pub first-whole : Encoded (take k x) (take 1 es)
     first-whole = subst (λ (ys : List Component). Encoded (take k x) (take 1 ys)) l.is (front-encoded l.whole z size_is)
 
-    pub first-parts : {w : List ℕ} → LentChars (component_in x) w → FirstParts es 1 k (length w)
-    first-parts {w} v =
-        record {
-          most = rw (one-there l z) (omega arith);
-          bytes_is = first-long ∙ ap length first-whole.is;
-          chars_is = rw (one-there l z, v.is) (omega arith);
-        }
-
     -- what the end makes is what is settled
     pub settled-done : (a : Argument) (g : List ℕ) {t : Taken} → Took (until_by a g) (components_in (take k x)) t → (removes : Bool) {σ' : State}
         → HoldsState σ' (on_store (related t.reached removes i) σ) → HoldsState σ' (on_store (settled a g removes i) σ)
@@ -96,6 +78,14 @@ module _ {σ : State} {i : ℕ} {x : List ℕ} (l : ExprLent σ i x) where
         ap (λ (ys : List Component). (taken (until_by a g) ys).1) (sym (components-of first-whole))
         ∙ ap (λ (r : ℕ × Bool). r.1) w.is in
         rw q d
+
+  pub first-parts : (length x ≡ 0 → ⊥) → {a : Amount} → AmountOfFirst x a → FirstParts es 1 a.bytes a.chars
+  first-parts z {a} v =
+      record {
+        most = rw (one-there l z) (omega arith);
+        bytes_is = first-long z v.bytes_are ∙ ap length (first-whole z v.bytes_are).is;
+        chars_is = rw (one-there l z, v.chars_are) (omega arith);
+      }
 
 -- what is settled, by what the argument means
 pub settled-met : (c : List ℕ) (a : Argument) (ins : Inputs) (s : Store) (i : ℕ) {g : List ℕ} (removes : Bool) → Encoded g (side ins s (arg_of c a))
@@ -107,7 +97,7 @@ settled-met c a ins s i {g} removes e = ap (λ (b : Bool). related b removes i s
 
 bytes-some : (xs : List Component) → filled xs ≡ true → 0 < length (components_bytes xs)
 unfolding components_bytes
-bytes-some [] f = absurd (false-true f)
+bytes-some [] f = absurd (false≢true f)
 bytes-some (x ∷ xs) f = simp length-append (omega (arith, component-some x))
 
 -- where there are components, one stands in front

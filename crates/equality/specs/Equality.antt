@@ -1,5 +1,5 @@
 -- What RW asks, and what is told of its arguments.
-use Rattle.std.specs.Prelude.{◌≡◌, Bool, true, false, cond, List, [], ℕ, ◌≤◌, ◌<◌, eqb, length, take}
+use Rattle.std.specs.Prelude.{◌≡◌, Bool, true, false, cond, List, [], ℕ, ◌≤◌, ◌<◌, eqb, length}
 use Rattle.language.specs.Limits as limit
 use Rattle.language.specs.Letters.Letter.{E}
 use Rattle.language.specs.Values.{Component, Store, State, kind, same, of_class}
@@ -16,6 +16,7 @@ use Rattle.state.specs.Working.{nth, reading}
 use Rattle.components.specs.declared.Amount.{Amount}
 use Rattle.state.specs.Blocks.{FirstParts}
 use Rattle.table.specs.Denote.{arg_of}
+use Rattle.instructions.specs.Fronts.{front_part}
 use Rattle.table.specs.declared.Letter.{Letter}
 use Rattle.table.specs.declared.Argument.{Argument}
 use Rattle.table.specs.declared.Argument.TheVariants.{Nothing, Indexed, Label, Switch, Class, Text, Number}
@@ -77,7 +78,7 @@ related holds removes i s = cond holds (used (nth (reading removes) i) s) (minus
 
 -- by what the first component is compared with: the argument, and the components in g
 unfoldable pub settled : Argument → List ℕ → Bool → ℕ → Store → Store
-settled a g removes i s = related (taken (until_by a g) (take 1 (expr s (nth E i)))).1 removes i s
+settled a g removes i s = related (taken (until_by a g) (front_part s i)).1 removes i s
 
 -- expression i has a first component
 pub record Settleable (σ : State) (g : List ℕ) (i : ℕ) : Type 0 where

@@ -83,14 +83,8 @@ fn settle(state: &mut Working, given: &[u8], source: Source, arg: table::Argumen
     ensures { HoldsState state.new (on_store (settled arg given.now source.removes source.i) state.old) }
 {
     let x = state.expr_bytes(source.i);
-    let bytes = components::first_size(x);
-    let t = matching::count(&x[..bytes], test_of(arg, given));
-    let chars = components::chars_of(x).len();
-    let first = Amount {
-        parts: 1,
-        bytes,
-        chars,
-    };
+    let first = Amount::of_first(x);
+    let t = matching::count(&x[..first.bytes], test_of(arg, given));
     finish(state, source, first, t.reached);
 }
 
@@ -106,7 +100,7 @@ pub fn rw_one(
 {
     let held = comparands::put_comparand(table, &bench.state, &mut bench.given, arg);
     let x = bench.state.expr_bytes(source.i);
-    if x.len() == 0 {
+    if x.is_empty() {
         return Err(Question::Missing);
     }
     let len = held?;

@@ -1,6 +1,6 @@
 -- The next character of an input, and the characters that an argument means.
 use mathlib.Core.Path.{◌≡◌, refl, sym, ap, ◌∙◌, fun_ext}
-use mathlib.Core.Bool.{Bool, ◌||◌}
+use mathlib.Core.Bool.{Bool, ◌||◌, or-false}
 use mathlib.Core.List.{List, [], ◌∷◌, map}
 use Prim.Native.Nat.{ℕ, min}
 use native.Mathlib.Omega.{arith}
@@ -18,7 +18,6 @@ use Rattle.table.specs.Denote.{arg_of, text_of}
 use Rattle.table.specs.declared.Argument.{Argument}
 use Rattle.table.specs.declared.Argument.TheVariants as argument
 use Rattle.equality.specs.Equality.{firsts_by}
-use Rattle.equality.proofs.Meeting.{or-false}
 use Rattle.readings.specs.Readings.{read_place, Left}
 use Rattle.input_equality.specs.InputEquality.{compared}
 

@@ -1,6 +1,6 @@
 -- The row of RW of an input, and that its function does what it says.
 use mathlib.Core.Path.{◌≡◌, refl, sym, ap, ◌∙◌, subst}
-use mathlib.Core.Bool.{Bool, true, false, cond, ◌&&◌}
+use mathlib.Core.Bool.{Bool, true, false, cond, and-true}
 use mathlib.Core.List.{List, [], ◌∷◌, map}
 use Prim.Native.Nat.{ℕ, ◌<◌}
 use native.Mathlib.Omega.{arith}
@@ -109,11 +109,7 @@ module _ {σ : State} (h : Stands σ) (i1 i2 : List ℕ) (i : ℕ) (c : List ℕ
     word_is : single b ≡ true → spelled (side ins s b) ≡ eqb (kind (component_in (take n g))) 0
     word_is m =
         let k = (leads encoded (single-there c s a o y ins m)).1 in
-        rw (← components-of encoded, k) (last-true (eqb (kind (component_in (take n g))) 0))
-      where
-        last-true : (v : Bool) → (v && true) ≡ v
-        last-true true = refl
-        last-true false = refl
+        rw (← components-of encoded, k) (and-true (eqb (kind (component_in (take n g))) 0))
 
     word-asked : {u : Bool} → NotWord (take n g) a u → u ≡ unlike_by (single b) (spelled (side ins s b))
     word-asked w = w (table_of c) ∙ go (single b) refl

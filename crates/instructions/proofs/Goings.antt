@@ -1,6 +1,6 @@
 -- Rows that go elsewhere than to the following instruction: from the answers to their questions to what their functions promise.
 use mathlib.Core.Path.{◌≡◌, refl, sym, ap, ◌∙◌, subst}
-use mathlib.Core.Bool.{Bool, true, false, ◌&&◌}
+use mathlib.Core.Bool.{Bool, true, false, and-false}
 use mathlib.Core.List.{List, [], ◌∷◌}
 use Prim.Native.Nat.{ℕ}
 use native.Mathlib.Omega.{arith}
@@ -26,10 +26,6 @@ Yes q = Each (λ n. q n ≡ true) numbers
 
 pub none-yes : Yes none
 none-yes = (refl, (refl, (refl, (refl, (refl, (refl, (refl, (refl, (refl, (refl, tt))))))))))
-
-no-right : (a : Bool) → a && false ≡ false
-no-right true = refl
-no-right false = refl
 
 -- a row whose own questions are all answered yes asks what one does that has none
 asked-none : (q : Asks) (t : Store) (g : Go) (s : State) → Yes q → asked_of (q, t, g) s ≡ asked_of (none, t, g) s
@@ -60,7 +56,7 @@ module _ (r : Row) (s : State) (y : Yes r.0) (c : can_go r.2 s.stack ≡ true) w
 
   pub answer-full : leb (length (made r s).stack) limit.stack ≡ false → answer_of r s ≡ 59
   answer-full l =
-      ap (λ (k : List Question). head_or 0 (refusals k)) (asked-none r.0 r.1 r.2 s y) ∙ rw (c, l, no-right (fits r.1)) refl
+      ap (λ (k : List Question). head_or 0 (refusals k)) (asked-none r.0 r.1 r.2 s y) ∙ rw (c, l, and-false (fits r.1)) refl
 
 module _ {σ : State} (h : Stands σ) (r : Row) (y : Yes r.0) (c : can_go r.2 σ.stack ≡ true) where
   -- the memory holds what it makes; the return stack is full

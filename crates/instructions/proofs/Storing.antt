@@ -1,17 +1,18 @@
 -- Rows that may give addresses: 59, then 60, after what they ask of their own; and rows that ask nothing of their own.
-use mathlib.Core.Path.{◌≡◌, refl, ◌∙◌}
+use mathlib.Core.Path.{◌≡◌, refl, sym, ◌∙◌}
 use mathlib.Core.Bool.{true, false}
 use Prim.Native.Nat.{◌<◌}
 use native.Mathlib.Omega.{arith}
-use borrow.Author.Tests.{lt-leb}
+use borrow.Author.Tests.{le-leb, lt-leb}
 use Rattle.state.specs.Below.Limits as limit
 use Rattle.state.specs.Below.LanguageValues.{Store, State}
 use Rattle.state.specs.Below.MachineArguments.{Asks, none}
 use Rattle.state.specs.Below.Changes.{fits}
 use Rattle.state.specs.Below.Effects.Go.{on}
 use Rattle.state.specs.Working.{HoldsState, Stands, on_store}
-use Rattle.instructions.specs.Does.{with_store, Does, Quiet, stop_of}
-use Rattle.instructions.proofs.Answers.{does-stop, answer-on, quiet-done}
+use Rattle.state.proofs.Fits.{fine-limited, fits-limited}
+use Rattle.instructions.specs.Does.{answer_of, with_store, Does, Quiet, stop_of}
+use Rattle.instructions.proofs.Answers.{kept-done, does-stop, answer-quiet, answer-on, quiet-done}
 
 pub quiet_none : Quiet none
 quiet_none = record { is_50 = refl; is_55 = refl; is_56 = refl; is_57 = refl; is_58 = refl; is_59 = refl; is_60 = refl }
@@ -27,11 +28,15 @@ module _ {σ : State} (h : Stands σ) (q : Asks) (k : Quiet q) (z : stop_of q �
   pub storing-done : {σ' : State} → HoldsState σ' (with_store t σ) → Does σ 0 σ' (q, t, on)
   storing-done g = quiet-done h q t k z g
 
--- nothing is asked: all is done, or 59
-module _ {σ : State} (h : Stands σ) where
-  pub plain_done : (f : Store → Store) {σ' : State} → HoldsState σ' (on_store f σ) → Does σ 0 σ' (none, f σ.store, on)
-  unfolding on_store
-  plain_done f g = quiet-done h none (f σ.store) quiet_none refl g
+-- nothing is asked: all is done, or 59. Where all is done, the new state alone has to be fine
+pub plain_done : {σ : State} (f : Store → Store) {σ' : State} → HoldsState σ' (on_store f σ) → Does σ 0 σ' (none, f σ.store, on)
+unfolding on_store
+plain_done {σ} f g =
+    let t : Store = f σ.store in
+    let q : answer_of (none, t, on) σ ≡ 0 =
+    answer-quiet none t σ quiet_none g.fine.stack_most
+    ∙ rw (fits-limited (fine-limited (with_store t σ) g.fine), le-leb t.last limit.addresses g.fine.last_most) refl in
+    record { is = sym q; holds = rw (kept-done (none, t, on) σ q) g }
 
-  pub plain-full : (t : Store) → fits t ≡ false → Does σ 59 σ (none, t, on)
-  plain-full t f = storing-full h none quiet_none refl t f
+pub plain-full : {σ : State} → Stands σ → (t : Store) → fits t ≡ false → Does σ 59 σ (none, t, on)
+plain-full h t f = storing-full h none quiet_none refl t f

@@ -1,11 +1,12 @@
 -- Components written to an expression by an instruction that takes none away.
-use mathlib.Core.Path.{◌≡◌, refl, ◌∙◌, subst}
-use mathlib.Core.Bool.{Bool, true, false, cond, ◌&&◌}
+use mathlib.Core.Path.{◌≡◌, refl, ◌∙◌}
+use mathlib.Core.Bool.{Bool, true, false, ◌&&◌}
 use mathlib.Core.List.{List, [], ◌∷◌}
 use Prim.Native.Nat.{ℕ, ◌+◌, ◌<◌}
 use lib.Dec.{leb}
 use lib.ListN.{length}
 use borrow.Author.Tests.{leb-true}
+use Rattle.std.proofs.lemmas.Bool.{and_parts}
 use Rattle.state.specs.Below.Limits as limit
 use Rattle.state.specs.Below.LanguageValues.{Component, Store, State}
 use Rattle.state.specs.Below.Changes.{put_expr, placed, into, fits}
@@ -17,12 +18,6 @@ use Rattle.state.specs.Blocks.{PartsWritable}
 use Rattle.state.specs.Working.{Stands, nth, writing, turned, char_count}
 use Rattle.state.proofs.Fits.{fine-limited, fits-into-ok}
 use Rattle.instructions.specs.Operands.{target}
-
--- two answers
-pub both : (a b : Bool) → (a && b) ≡ true → (a ≡ true) × (b ≡ true)
-both true true q = (refl, refl)
-both true false q = absurd (subst (λ (z : Bool). cond z ⊥ (Unit {0})) q tt)
-both false b q = absurd (subst (λ (z : Bool). cond z ⊥ (Unit {0})) q tt)
 
 -- by a letter, and turned round before; one component is the same
 pub into-target : (reverses at_end : Bool) (j : ℕ) (xs : List Component) (s : Store)
@@ -53,7 +48,7 @@ module _ {σ : State} (h : Stands σ) {new : List ℕ} {xs : List Component} (c 
 
   pub writable : roomy ≡ true → PartsWritable σ j new k m
   writable y =
-      let w = both (leb (components_held s + k) limit.components) (leb (chars_held s + m) limit.characters) y in
+      let w = and_parts (leb (components_held s + k) limit.components) (leb (chars_held s + m) limit.characters) y in
       let i : components_in new ≡ xs = components-of c in
       record {
         index = d;

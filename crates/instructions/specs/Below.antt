@@ -1,5 +1,4 @@
 -- Modules of the crates below, passed on to those above. Declares nothing.
-pub use Rattle.state.specs.Blocks
 pub use Rattle.state.specs.Working
 pub use Rattle.state.specs.declared.FileTarget
 pub use Rattle.state.specs.declared.Source

@@ -77,7 +77,11 @@ DoesIn σ told σ' r = (ins : Inputs) → Does σ told σ' (r ins)
 abbrev pub GoesIn : State → ℕ → State → (Inputs → Row) → Type 0
 GoesIn σ told σ' r = (ins : Inputs) → Goes σ told σ' (r ins)
 
--- whether so many components and characters have room, where so many are freed before
+-- whether so many components and characters more have room
+abbrev pub has_room : Store → ℕ → ℕ → Bool
+has_room s parts chars = leb (components_held s + parts) limit.components && leb (chars_held s + chars) limit.characters
+
+-- whether so many have, where so many are freed before
 abbrev pub room_after : Store → ℕ → ℕ → ℕ → ℕ → Bool
 room_after s freed_parts freed_chars parts chars =
     leb (components_held s + parts) (limit.components + freed_parts) && leb (chars_held s + chars) (limit.characters + freed_chars)

@@ -1,16 +1,14 @@
 // What the function of an instruction promises, and whether what one writes has room.
 #![tactic(auto)]
 
-ghost use Rattle.std.specs.Prelude.{◌≡◌, ◌<◌, ◌&&◌, ◌+◌, leb};
+ghost use Rattle.std.specs.Prelude.{◌≡◌, ◌<◌};
 ghost use Rattle.components.specs.Parts.{kind_number};
 ghost use Rattle.state.specs.Below.Limits as limit;
-ghost use Rattle.state.specs.Below.LayoutMemory.{components_held, chars_held};
-ghost use Rattle.instructions.specs.Does.{More, room_after};
+ghost use Rattle.instructions.specs.Does.{More, has_room, room_after};
 ghost use Rattle.instructions.specs.Fronts.{FrontOf};
 
 use components::{Amount, Kind};
 use language::Machine;
-use layout::StatePlaces;
 use state::Working;
 pub use state::{FileTarget, Source, Target};
 pub use tasks::Task;
@@ -55,25 +53,20 @@ pub fn has_room_after(state: &Working, freed: Amount, new: Amount) -> bool
     requires new { More new.parts new.chars }
     ensures { result ≡ room_after state.now.store freed.parts freed.chars new.parts new.chars }
 {
-    let parts = state.number(StatePlaces::COMPONENTS_SCALAR) + new.parts;
+    let parts = state.components() + new.parts;
     if Machine::COMPONENTS + freed.parts < parts {
         return false;
     }
-    let chars = state.number(StatePlaces::CHARACTERS_SCALAR) + new.chars;
+    let chars = state.characters() + new.chars;
     chars <= Machine::CHARACTERS + freed.chars
 }
 
 // Whether so much more is within the limits.
 pub fn has_room(state: &Working, more: Amount) -> bool
     requires { More more.parts more.chars }
-    ensures { result ≡ leb (components_held state.now.store + more.parts) limit.components && leb (chars_held state.now.store + more.chars) limit.characters }
+    ensures { result ≡ has_room state.now.store more.parts more.chars }
 {
-    let freed = Amount {
-        parts: 0,
-        bytes: 0,
-        chars: 0,
-    };
-    has_room_after(state, freed, more)
+    has_room_after(state, Amount::NONE, more)
 }
 
 // The bytes of expression `i`, which has a component (52), and in front one of this kind (53).

@@ -6,16 +6,17 @@ use Prim.Native.Nat.{ℕ, ◌≤◌, ◌<◌}
 use lib.Dec.{T}
 use lib.ListN.{length}
 use borrow.Author.Tests.{le-leb, lt-leb}
+use Rattle.calls.proofs.AnswerLaws.{count-told}
+use Rattle.class_running.proofs.Seating.{number-told}
 use Rattle.language.specs.Limits as limit
 use Rattle.language.specs.Values.{Inputs}
 use Rattle.machine.specs.WellFormed.{good_inputs, started}
-use Rattle.machine.specs.Runs.{Answer}
-use Rattle.machine.specs.Runs.Answer.{pause, stopped}
+use Rattle.machine.specs.Runs.Answer.{stopped}
 use Rattle.layout.specs.Memory.{state_of, good_memory, written}
 use Rattle.layout.specs.Table.{program_of, good_table}
-use Rattle.class_running.specs.Below.Running.{answer_number, stop_number, run_on, Runnable, RanOn}
+use Rattle.class_running.specs.Below.Running.{stop_number, run_on, Runnable, RanOn}
 use Rattle.class_running.specs.Below.Ran.{Ran}
-use Rattle.calls.specs.Calls.{packed, Call, call_inputs, Result, reply_number, reply_count, reply_answer, memory_passes, run_reply, result_of, start_of, run_of}
+use Rattle.calls.specs.Calls.{packed, Call, call_inputs, Result, reply_answer, memory_passes, result_of, start_of, run_of}
 use Rattle.calls.specs.Calls.Call.{start_on}
 use Rattle.calls.proofs.OrderLaws.{is-62, is-61, is-63, is-accepted}
 use Rattle.check_calls.specs.Asked.{first_no}
@@ -55,14 +56,6 @@ module _ (c i j m : List ℕ) (budget : ℕ) {k : ℕ} (told : k ≡ first_no c 
   -- what the question 63 asks of those before it
   pub asked : Asked c i j
   asked = let y = both_yes c (i ∷ j ∷ []) told none in record { table = subst T (sym y.0) tt; inputs = subst T (sym y.1) tt }
-
-  number-told : (x : Answer) (n : ℕ) → reply_number (run_reply x n) ≡ answer_number x
-  number-told pause n = refl
-  number-told (stopped s) n = refl
-
-  count-told : (x : Answer) (n : ℕ) → reply_count (run_reply x n) ≡ n
-  count-told pause n = refl
-  count-told (stopped s) n = refl
 
   module _ {d : Bool} (is : d ≡ good_memory (program_of c) (i ∷ j ∷ []) m) (g : d ≡ true) where
     pub runnable : Runnable c i j m

@@ -22,7 +22,7 @@ use tasks::Lent;
 use translating::from_loading::Loaded;
 
 // The number of an accepted call.
-const ACCEPTED: u8 = 80;
+pub const ACCEPTED: u8 = 80;
 
 // Number and value in one. The numbers below are those that C gets.
 fn packed(number: u8, value: u32) -> u64

@@ -21,8 +21,8 @@ use Rattle.state.specs.Working.{HoldsState, Stands, on_store, nth, reading, writ
 use Rattle.state.specs.Blocks.{ExprLent, PartsWritable}
 use Rattle.state.specs.Limited.{Limited}
 use Rattle.state.proofs.Fits.{fine-limited, fits-minus_unless, fits-into}
-use Rattle.state.proofs.Freed.{limited-past, components-past, chars-past}
-use Rattle.moves.proofs.Taking.{took, taken-part, droppable}
+use Rattle.state.proofs.Freed.{limited-past}
+use Rattle.moves.proofs.Taking.{took, taken-part, parts-off, chars-off}
 use Rattle.moves.proofs.WordsTaken.{part-is, chars-long}
 use Rattle.joining.specs.Joining.{word_if, some, word_room, joined_up, WordsMakeable}
 use Rattle.joining.proofs.Words.{some-most, word_count, word-chars, made-encoded, room_of, room-have}
@@ -51,18 +51,12 @@ module _ {σ : State} {i : ℕ} {x : List ℕ} {u : Until Component} {t : Taken}
       rw long
       (omega (arith, some-least t.amount.chars (take t.amount.parts xs) (took h b l k).chars_is, length-take t.amount.parts xs, (took h b l k).parts_most))
 
-  within : i < length s.exprs
-  within = rw h.fine.exprs_is b
-
   module _ (removes : Bool) where
     abbrev z : Store
     z = past (nth (reading removes) i) t.amount.parts s
 
-    parts-off : components_held z + cond removes t.amount.parts 0 ≡ components_held s
-    parts-off = components-past s i t.amount.parts within (droppable h b l k).first removes
-
-    chars-off : chars_held z + cond removes (length w) 0 ≡ chars_held s
-    chars-off = rw long (chars-past s i t.amount.parts within (droppable h b l k).first removes)
+    letters-off : chars_held z + cond removes (length w) 0 ≡ chars_held s
+    letters-off = rw long (chars-off h b l k removes)
 
     -- the limits
     pub fits-joined : fits (joined_up u removes i s) ≡ word_room removes t.amount.chars s
@@ -73,12 +67,12 @@ module _ {σ : State} {i : ℕ} {x : List ℕ} {u : Until Component} {t : Taken}
         rw ((took h b l k).is, ← long)
         (fits-minus_unless t.reached (into (nth (writing false) i) (word_if w) z)
         ∙ fits-into (nth (writing false) i) z q (word_if w) m
-        ∙ room_of w t.amount.parts (components_held s) (chars_held s) (components_held z) (chars_held z) h.fine.components_most h.fine.chars_most few removes parts-off chars-off)
+        ∙ room_of w t.amount.parts (components_held s) (chars_held s) (components_held z) (chars_held z) h.fine.components_most h.fine.chars_most few removes (parts-off h b l k removes) letters-off)
 
     module _ (r : word_room removes t.amount.chars s ≡ true) where
       have : (length w ≤ limit.word) × (components_held z + some (length w) ≤ limit.components) × (chars_held z + length w ≤ limit.characters)
       have =
-          room-have w t.amount.parts (components_held s) (chars_held s) (components_held z) (chars_held z) h.fine.components_most h.fine.chars_most few removes parts-off chars-off
+          room-have w t.amount.parts (components_held s) (chars_held s) (components_held z) (chars_held z) h.fine.components_most h.fine.chars_most few removes (parts-off h b l k removes) letters-off
           (rw long r)
 
       pub makeable : WordsMakeable (take t.amount.bytes x)

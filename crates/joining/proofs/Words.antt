@@ -1,12 +1,13 @@
 -- One word of characters: its bytes, and whether it has room.
 use mathlib.Core.Path.{◌≡◌, refl, sym, ap, ◌∙◌}
-use mathlib.Core.Bool.{Bool, true, false, cond, ◌&&◌, ◌||◌}
+use mathlib.Core.Bool.{Bool, true, false, cond, ◌&&◌, ◌||◌, and-true, and_comm}
 use mathlib.Core.List.{List, [], ◌∷◌}
 use Prim.Native.Nat.{ℕ, zero, suc, ◌+◌, ◌≤◌}
 use native.Mathlib.Omega.{arith}
 use lib.Dec.{leb}
 use lib.ListN.{length, take}
 use borrow.Author.Tests.{le-leb, leb-true}
+use Rattle.std.proofs.lemmas.Bool.{and_parts}
 use Rattle.lists.specs.Lists.{all}
 use Rattle.language.specs.Limits as limit
 use Rattle.language.specs.Values.Component.{word}
@@ -18,7 +19,6 @@ use Rattle.cells.proofs.Laws.{pasted-front, pasted-none}
 use Rattle.components.specs.Parts.{Written}
 use Rattle.state.specs.Working.{char_count}
 use Rattle.state.specs.Limited.{short_word}
-use Rattle.instructions.proofs.Written.{both}
 use Rattle.joining.specs.Joining.{word_if, some}
 
 pub some-most : (k : ℕ) → some k ≤ 1
@@ -63,18 +63,9 @@ made-encoded w h b = record { is = written_is h; all_ok = word_ok w b }
 
 -- ---- its room: c and k components and characters are held, of which those of the word may be taken away before
 
-and-true : (a : Bool) → (a && true) ≡ a
-and-true true = refl
-and-true false = refl
-
 word-short : (w : List ℕ) → all short_word (word_if w) ≡ leb (length w) limit.word
 word-short [] = refl
 word-short (x ∷ w) = and-true (leb (length (x ∷ w)) limit.word)
-
-and-turned : (a b : Bool) → (a && b) ≡ (b && a)
-and-turned true b = sym (and-true b)
-and-turned false true = refl
-and-turned false false = refl
 
 module _ (w : List ℕ) (parts c k c' k' : ℕ) (a : c ≤ limit.components) (b : k ≤ limit.characters) (few : some (length w) ≤ parts) where
   pub room_of : (removes : Bool) → c' + cond removes parts 0 ≡ c → k' + cond removes (length w) 0 ≡ k
@@ -92,16 +83,16 @@ module _ (w : List ℕ) (parts c k c' k' : ℕ) (a : c ≤ limit.components) (b 
       let p : c' ≡ c = omega (arith, x) in
       let q : k' ≡ k = omega (arith, y) in
       rw (word_count w, word-chars w, word-short w, p, q)
-      (and-turned (leb (c + some (length w)) limit.components && leb (k + length w) limit.characters) (leb (length w) limit.word))
+      (and_comm (leb (c + some (length w)) limit.components && leb (k + length w) limit.characters) (leb (length w) limit.word))
 
   pub room-have : (removes : Bool) → c' + cond removes parts 0 ≡ c → k' + cond removes (length w) 0 ≡ k
       → (leb (length w) limit.word && (removes || (leb (c + some (length w)) limit.components && leb (k + length w) limit.characters))) ≡ true
       → (length w ≤ limit.word) × (c' + some (length w) ≤ limit.components) × (k' + length w ≤ limit.characters)
   room-have true x y q =
-      (leb-true (length w) limit.word (both (leb (length w) limit.word) true q).0, omega (arith, x, a, few), omega (arith, y, b))
+      (leb-true (length w) limit.word (and_parts (leb (length w) limit.word) true q).0, omega (arith, x, a, few), omega (arith, y, b))
   room-have false x y q =
-      let q₁ = both (leb (length w) limit.word) (leb (c + some (length w)) limit.components && leb (k + length w) limit.characters) q in
-      let q₂ = both (leb (c + some (length w)) limit.components) (leb (k + length w) limit.characters) q₁.1 in
+      let q₁ = and_parts (leb (length w) limit.word) (leb (c + some (length w)) limit.components && leb (k + length w) limit.characters) q in
+      let q₂ = and_parts (leb (c + some (length w)) limit.components) (leb (k + length w) limit.characters) q₁.1 in
       let f = leb-true (c + some (length w)) limit.components q₂.0 in
       let g = leb-true (k + length w) limit.characters q₂.1 in
       (leb-true (length w) limit.word q₁.0, omega (arith, x, f), omega (arith, y, g))

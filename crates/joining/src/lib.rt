@@ -1,7 +1,7 @@
 // Joining words: ZBIJ, and characters made one word.
 #![tactic(auto)]
 
-ghost use Rattle.std.specs.Prelude.{◌≡◌, ◌<◌, ◌≤◌, length};
+ghost use Rattle.std.specs.Prelude.{◌≡◌, ◌<◌, length};
 ghost use Rattle.language.specs.Limits as limit;
 ghost use Rattle.language.specs.Program.Arg.{nothing};
 ghost use Rattle.language.specs.Program.Op.{ZBIJ};
@@ -15,7 +15,7 @@ ghost use Rattle.table.specs.Denote.{arg_of};
 ghost use Rattle.instructions.specs.Questions.{told_by};
 ghost use Rattle.instructions.specs.Does.{Tried, DoesFor};
 ghost use Rattle.moves.specs.Moves.{all_taken_words, TestBeside};
-ghost use Rattle.joining.specs.Joining.{word_if, some, word_room, joined_up, WordsMakeable, WordsJoinable};
+ghost use Rattle.joining.specs.Joining.{word_if, some, word_room, joined_up, WordMakeable, WordsMakeable, WordsJoinable};
 
 use components::Amount;
 use instructions::{Bench, Question, Source};
@@ -47,8 +47,8 @@ pub fn has_word_room(state: &Working, removes: bool, k: usize) -> bool
 }
 
 // Writes the word of these characters, if there are any, at the front of `out`, and tells how many cells it takes.
-pub fn make_word(out: &mut [u8; 32768], w: &[u8]) -> usize
-    requires { length w.now ≤ limit.word }
+pub fn make_word(out: &mut [u8], w: &[u8]) -> usize
+    requires { WordMakeable (length out.old) (length w.now) }
     ensures { Written out.old (components_bytes (word_if w.now)) out.new result }
 {
     if w.is_empty() {

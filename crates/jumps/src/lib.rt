@@ -26,7 +26,7 @@ pub enum Way {
 }
 
 // Calls instruction `t`, where the return stack has room.
-pub fn call(state: &mut Working, t: usize) -> Result<(), Question>
+fn call(state: &mut Working, t: usize) -> Result<(), Question>
     requires following { suc state.old.next < limit.instructions }
     requires below { t < limit.instructions }
     ensures { Led state.old (call t) (told_by result) state.new }

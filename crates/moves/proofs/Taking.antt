@@ -7,7 +7,7 @@ use native.Mathlib.Omega.{arith}
 use lib.Dec.{leb}
 use borrow.Author.Tests.{le-leb, leb-true}
 use lib.ListN.{length, take, length-append, length-take}
-use Rattle.lists.specs.Lists.{total}
+use Rattle.std.proofs.lemmas.Bool.{and_parts}
 use Rattle.language.specs.Limits as limit
 use Rattle.language.specs.Letters.Letter.{E}
 use Rattle.language.specs.Values.{Component, Store, State, chars}
@@ -15,7 +15,7 @@ use Rattle.machine.specs.Arguments.{expr, Until}
 use Rattle.machine.specs.Changes.{minus_unless, into, past, fits}
 use Rattle.layout.specs.Bounds.{Each, Ok, Encoded}
 use Rattle.layout.proofs.ComponentLaws.{component-some, components-of, whole-components}
-use Rattle.layout.specs.Components.{component_bytes, components_bytes, components_in}
+use Rattle.layout.specs.Components.{components_bytes, components_in}
 use Rattle.layout.specs.Memory.{components_held, chars_held}
 use Rattle.cells.specs.Cells.{pasted}
 use Rattle.cells.proofs.Laws.{pasted-front}
@@ -25,12 +25,11 @@ use Rattle.matching.specs.Tests.{Took}
 use Rattle.matching.specs.declared.Taken.{Taken}
 use Rattle.state.specs.Working.{HoldsState, Stands, on_store, nth, reading, writing, turned, char_count}
 use Rattle.state.specs.Blocks.{ExprLent, PartsDroppable, PartsWritable}
-use Rattle.state.proofs.Sequences.{turned-length, turned-total}
+use Rattle.state.proofs.Sequences.{turned-length, turned-total, bytes-turned}
 use Rattle.state.proofs.Fits.{fine-limited, fits-minus_unless, fits-into-ok}
 use Rattle.state.proofs.Freed.{limited-past, components-past, chars-past}
 use Rattle.state.specs.Limited.{Limited}
 use Rattle.instructions.specs.Does.{More}
-use Rattle.instructions.proofs.Written.{both}
 use Rattle.moves.specs.Moves.{room_beside, sent, cut_off}
 
 -- ---- turned round
@@ -42,14 +41,6 @@ each-turned-to (x ∷ xs) ys h k = each-turned-to xs (x ∷ ys) h.1 (h.0, k)
 each-turned : (b : Bool) (xs : List Component) → Each Ok xs → Each Ok (turned b xs)
 each-turned true xs h = each-turned-to xs [] h tt
 each-turned false xs h = h
-
-bytes-total : (xs : List Component) → length (components_bytes xs) ≡ total (λ x. length (component_bytes x)) xs
-unfolding components_bytes
-bytes-total [] = refl
-bytes-total (x ∷ xs) = simp length-append (omega (arith, bytes-total xs))
-
-bytes-turned : (b : Bool) (xs : List Component) → length (components_bytes (turned b xs)) ≡ length (components_bytes xs)
-bytes-turned b xs = bytes-total (turned b xs) ∙ turned-total (λ x. length (component_bytes x)) b xs ∙ sym (bytes-total xs)
 
 pub parts-least : (xs : List Component) → length xs ≤ length (components_bytes xs)
 unfolding components_bytes
@@ -83,7 +74,7 @@ module _ (parts chars c' k' : ℕ) {c k : ℕ} where
       → (c' + parts ≤ limit.components) × (k' + chars ≤ limit.characters)
   room-had true a b x y r = (omega (arith, x, a), omega (arith, y, b))
   room-had false a b x y r =
-      let w = both (leb (c + parts) limit.components) (leb (k + chars) limit.characters) r in
+      let w = and_parts (leb (c + parts) limit.components) (leb (k + chars) limit.characters) r in
       (omega (arith, x, leb-true (c + parts) limit.components w.0), omega (arith, y, leb-true (k + chars) limit.characters w.1))
 
 -- ---- what is taken
@@ -137,10 +128,10 @@ module _ {σ : State} {i : ℕ} {x : List ℕ} {u : Until Component} {t : Taken}
     abbrev z : Store
     z = past (nth (reading removes) i) t.amount.parts s
 
-    parts-off : components_held z + cond removes t.amount.parts 0 ≡ components_held s
+    pub parts-off : components_held z + cond removes t.amount.parts 0 ≡ components_held s
     parts-off = components-past s i t.amount.parts within droppable.first removes
 
-    chars-off : chars_held z + cond removes t.amount.chars 0 ≡ chars_held s
+    pub chars-off : chars_held z + cond removes t.amount.chars 0 ≡ chars_held s
     chars-off = chars-past s i t.amount.parts within droppable.first removes
 
     module _ (j : ℕ) (d : j < limit.expressions) (reverses at_end : Bool) where

@@ -1,13 +1,13 @@
 -- What moves of components make of a store, and what their functions ask.
-use Rattle.std.specs.Prelude.{Bool, true, ◌&&◌, ◌||◌, List, ℕ, ◌+◌, ◌≤◌, ◌<◌, leb, length, take}
+use Rattle.std.specs.Prelude.{Bool, true, ◌||◌, List, ℕ, ◌≤◌, ◌<◌, length, take}
 use Rattle.language.specs.Limits as limit
 use Rattle.language.specs.Letters.Letter.{E}
 use Rattle.language.specs.Values.{Component, Store}
 use Rattle.machine.specs.Arguments.{expr, Until, taken}
 use Rattle.machine.specs.Changes.{minus_unless, into, past}
 use Rattle.matching.specs.Tests.{all_word}
-use Rattle.layout.specs.Memory.{components_held, chars_held}
 use Rattle.state.specs.Working.{nth, reading, writing, turned}
+use Rattle.instructions.specs.Does.{has_room}
 use Rattle.table.specs.declared.Argument.{Argument}
 use Rattle.tests.specs.Prepares.{TestReadable, FittingIn, beside_size}
 use Rattle.tests.specs.declared.Prepared.{Prepared}
@@ -27,7 +27,7 @@ cut_off u i s = let r = taken u (expr s (nth E i)) in minus_unless r.1 (past (nt
 
 -- whether so many components and characters have room; where as many are taken away first, they have
 abbrev pub room_beside : Bool → ℕ → ℕ → Store → Bool
-room_beside removes parts chars s = removes || (leb (components_held s + parts) limit.components && leb (chars_held s + chars) limit.characters)
+room_beside removes parts chars s = removes || has_room s parts chars
 
 -- ---- what is asked
 

@@ -23,14 +23,6 @@ code-back n h = go (leb 8388607 n) refl
     go true e = omega (arith, leb-true 8388607 n e)
     go false e = omega (arith, leb-false 8388607 n e)
 
-pub abs-most : (n : ℕ) → n ≤ 16777214 → nat_abs (uncode n) ≤ 8388607
-unfolding uncode
-abs-most n h = go (leb 8388607 n) refl
-  where
-    go : (t : Bool) → leb 8388607 n ≡ t → nat_abs (cond t (pos (n - 8388607)) (negsuc (8388606 - n))) ≤ 8388607
-    go true e = omega (arith, leb-true 8388607 n e)
-    go false e = omega (arith, leb-false 8388607 n e)
-
 -- codes have the order of their numbers
 turned-less : (a b : ℕ) → b < 8388607 → ltb a b ≡ ltb (8388606 - b) (8388606 - a)
 turned-less a b h = go (ltb a b) refl

@@ -8,6 +8,7 @@ use lib.Dec.{T, leb}
 use lib.ListN.{length, take}
 use lib.IntN.{ℤ}
 use borrow.Author.Tests.{leb-true}
+use Rattle.std.proofs.lemmas.Bool.{and_parts}
 use Rattle.language.specs.Limits as limit
 use Rattle.language.specs.Values.{Component, Store, State, kind}
 use Rattle.language.specs.Values.Component.{word, address}
@@ -24,7 +25,6 @@ use Rattle.state.proofs.Freed.{limited-past, components-past, chars-past}
 use Rattle.components.specs.declared.Amount.{Amount}
 use Rattle.instructions.specs.Does.{Tried, stop_of, room_after}
 use Rattle.instructions.proofs.Room.{room-freed}
-use Rattle.instructions.proofs.Written.{both}
 use Rattle.instructions.proofs.Answers.{tried-full, tried-done}
 use Rattle.operands.specs.Operands.{replaced, Replaceable}
 use Rattle.operands.proofs.Reading.{wordless, left-kind}
@@ -104,7 +104,7 @@ module _ {σ : State} (st : Stands σ) {i : ℕ} {f : Amount} {new : List ℕ} {
         → HoldsState σ' (on_store (past (nth (reading removes) i) f.parts) σ) → PartsWritable σ' i new a.parts a.chars
     unfolding on_store
     writable e z g =
-        let w = both (leb (components_held s + a.parts) (limit.components + r.parts)) (leb (chars_held s + a.chars) (limit.characters + r.chars)) (sym e ∙ z) in
+        let w = and_parts (leb (components_held s + a.parts) (limit.components + r.parts)) (leb (chars_held s + a.chars) (limit.characters + r.chars)) (sym e ∙ z) in
         let p = leb-true (components_held s + a.parts) (limit.components + r.parts) w.0 in
         let k = leb-true (chars_held s + a.chars) (limit.characters + r.chars) w.1 in
         record {

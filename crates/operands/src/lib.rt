@@ -1,15 +1,15 @@
 // What two operands of an instruction are, with questions 52 and 53, and components in the place of the first.
 #![tactic(auto)]
 
-ghost use Rattle.std.specs.Prelude.{◌≡◌, ◌<◌, true, take};
-ghost use Rattle.language.specs.Letters.Letter.{E};
+ghost use Rattle.std.specs.Prelude.{◌≡◌, ◌<◌, true};
 ghost use Rattle.language.specs.Limits as limit;
-ghost use Rattle.machine.specs.Arguments.{expr, listed_pair};
+ghost use Rattle.machine.specs.Arguments.{listed_pair};
 ghost use Rattle.layout.specs.Components.{components_in};
-ghost use Rattle.state.specs.Working.{Stands, nth};
+ghost use Rattle.state.specs.Working.{Stands};
 ghost use Rattle.components.specs.Parts.{kind_number};
 ghost use Rattle.instructions.specs.Questions.{told_by};
 ghost use Rattle.instructions.specs.Does.{Tried};
+ghost use Rattle.instructions.specs.Fronts.{front_part};
 ghost use Rattle.operands.specs.Operands.{kinds_by, AsksKinds, OperandReadable, PairReadable, ReadsNumber, ReadsOffered, ReadsOperand, ReadsPair, replaced, Replaceable};
 
 use components::{Amount, Kind, ZERO};
@@ -67,7 +67,7 @@ pub fn ask_kinds(kinds: Kinds, x: Option<Offered>, y: Option<Offered>) -> Result
 // The first component of expression `i`.
 fn first_offered(state: &Working, i: usize) -> Option<Offered>
     requires { i < limit.expressions }
-    ensures reads { ReadsOffered (take 1 (expr state.now.store (nth E i))) result }
+    ensures reads { ReadsOffered (front_part state.now.store i) result }
     ensures stands { Stands state.now }
 {
     let x = state.expr_bytes(i);
@@ -86,7 +86,7 @@ fn first_offered(state: &Working, i: usize) -> Option<Offered>
 // The first component of expression `i` as a number: its code.
 pub fn first_number(state: &Working, i: usize) -> Result<usize, Question>
     requires { i < limit.expressions }
-    ensures reads { ReadsNumber (take 1 (expr state.now.store (nth E i))) result }
+    ensures reads { ReadsNumber (front_part state.now.store i) result }
     ensures stands { Stands state.now }
 {
     let x = instructions::front_of(state, i, Kind::Number)?;
@@ -131,13 +131,6 @@ pub fn two_operands(
     let y = second_offered(state, arg);
     ask_kinds(kinds, x, y)
 }
-
-// How much one number is.
-pub const NUMBER: Amount = Amount {
-    parts: 1,
-    bytes: 5,
-    chars: 0,
-};
 
 // Puts the components in `new`, which are so much, in front of an expression, where they have room, and removes the first component, which is `first`, or
 // not.

@@ -3,14 +3,12 @@ use Rattle.std.specs.Prelude.{◌≡◌, Bool, List, [], ◌∷◌, ℕ, ◌≤�
 use Rattle.characters.specs.Characters.{precedes}
 use Rattle.language.specs.Instructions.{two_words}
 use Rattle.language.specs.Limits as limit
-use Rattle.language.specs.Letters.Letter.{E}
 use Rattle.language.specs.Program.{Op}
 use Rattle.language.specs.Program.Op.{WK, MN, PP, NS}
 use Rattle.language.specs.Values.{Component, Store, Inputs, chars}
 use Rattle.language.specs.Values.Component.{word}
-use Rattle.machine.specs.Arguments.{expr, first, side, of_kinds}
+use Rattle.machine.specs.Arguments.{first, side, of_kinds}
 use Rattle.packed.specs.Packed.{table_of}
-use Rattle.state.specs.Working.{nth}
 use Rattle.table.specs.Denote.{arg_of}
 use Rattle.table.specs.Good.{GoodArgument}
 use Rattle.table.specs.declared.Letter.{Letter}
@@ -20,6 +18,7 @@ use Rattle.table.specs.declared.Argument.TheVariants.{Indexed}
 use Rattle.instructions.specs.Questions.{told_by}
 use Rattle.instructions.specs.declared.Question.{Question}
 use Rattle.instructions.specs.Does.{stop_of}
+use Rattle.instructions.specs.Fronts.{front_part}
 use Rattle.operands.specs.Operands.{kind_in, kind_offered}
 use Rattle.operands.specs.declared.Offered.{Offered}
 use Rattle.operands.specs.declared.Pair.{Pair}
@@ -80,4 +79,4 @@ pub record ReadsTwo (xs ys : List Component) (g h : List ℕ) (r : Result Pair Q
   pub is : IfOk r (λ p. BothSpelled xs ys g h p)
 
 abbrev pub ReadsWords : List ℕ → Store → ℕ → Argument → List ℕ → List ℕ → Result Pair Question → Type 0
-ReadsWords c s i a g h r = (ins : Inputs) → ReadsTwo (take 1 (expr s (nth E i))) (side ins s (arg_of (table_of c) a)) g h r
+ReadsWords c s i a g h r = (ins : Inputs) → ReadsTwo (front_part s i) (side ins s (arg_of (table_of c) a)) g h r

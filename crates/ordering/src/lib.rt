@@ -1,11 +1,9 @@
 // Order: WK and MN of numbers, PP and NS of words.
 #![tactic(auto)]
 
-ghost use Rattle.std.specs.Prelude.{◌≡◌, ◌<◌, false, take};
-ghost use Rattle.language.specs.Letters.Letter.{E};
+ghost use Rattle.std.specs.Prelude.{◌≡◌, ◌<◌, false};
 ghost use Rattle.language.specs.Limits as limit;
 ghost use Rattle.language.specs.Program.Arg.{nothing};
-ghost use Rattle.machine.specs.Arguments.{expr};
 ghost use Rattle.machine.specs.Effects.{row};
 ghost use Rattle.packed.specs.Packed.{table_of};
 ghost use Rattle.state.specs.Working.{Stands, nth, reading};
@@ -13,6 +11,7 @@ ghost use Rattle.table.specs.Good.{GoodText};
 ghost use Rattle.table.specs.Denote.{arg_of};
 ghost use Rattle.instructions.specs.Questions.{told_by};
 ghost use Rattle.instructions.specs.Does.{DoesFor};
+ghost use Rattle.instructions.specs.Fronts.{front_part};
 ghost use Rattle.operands.specs.Operands.{PairReadable, DoesWith};
 ghost use Rattle.table.specs.Denote.{text_of};
 ghost use Rattle.ordering.specs.Ordering.{TextIs, OtherReadable, Comparable, ReadsWord, ReadsOther, ReadsWords, number_op, word_op, words_by};
@@ -33,7 +32,7 @@ pub enum Order {
 // Puts the characters of the first component of expression `i` in front of `out`, none of a number or an address: how many they are.
 fn first_word(state: &Working, out: &mut [u8; 32768], i: usize) -> Option<Offered>
     requires { i < limit.expressions }
-    ensures reads { ReadsWord (take 1 (expr state.now.store (nth E i))) out.new result }
+    ensures reads { ReadsWord (front_part state.now.store i) out.new result }
     ensures stands { Stands state.now }
 {
     let x = state.expr_bytes(i);

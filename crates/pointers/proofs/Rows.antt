@@ -52,28 +52,28 @@ pub front-pointable : {σ : State} {i : ℕ} → i < limit.files → Pointable �
 unfolding records_bytes
 front-pointable l = record { index = l; bytes_is = refl }
 
+-- ---- COFNIJ and ZAMIEN
+
+pub cofnij-done : (i : ℕ) {σ σ' : State} → HoldsState σ' (on_store (pointed_at i 0) σ)
+    → DoesFor σ 0 σ' (λ g ins. row g ins σ.store (nth P i) nothing nothing COFNIJ)
+unfolding row
+cofnij-done i {σ} k g ins = rw (pointed-is i 0 σ.store) (plain_done (pointed_at i 0) k)
+
+pub zamien-exprs : (i j : ℕ) {σ σ' : State} → HoldsState σ' (on_store (exprs_exchanged i j) σ)
+    → DoesFor σ 0 σ' (λ g ins. row g ins σ.store (nth E i) (nth E j) nothing ZAMIEN)
+unfolding row exchanged exprs_exchanged
+zamien-exprs i j k g ins = plain_done (exprs_exchanged i j) k
+
+pub zamien-files : (i j : ℕ) {σ σ' : State} → HoldsState σ' (on_store (files_exchanged i j) σ)
+    → DoesFor σ 0 σ' (λ g ins. row g ins σ.store (nth P i) (nth P j) nothing ZAMIEN)
+unfolding row exchanged files_exchanged
+zamien-files i j k g ins = plain_done (files_exchanged i j) k
+
+-- ---- SCHOWAJ
+
 module _ {σ : State} (h : Stands σ) where
   abbrev s : Store
   s = σ.store
-
-  -- ---- COFNIJ and ZAMIEN
-
-  pub cofnij-done : (i : ℕ) {σ' : State} → HoldsState σ' (on_store (pointed_at i 0) σ)
-      → DoesFor σ 0 σ' (λ g ins. row g ins s (nth P i) nothing nothing COFNIJ)
-  unfolding row
-  cofnij-done i k g ins = rw (pointed-is i 0 s) (plain_done h (pointed_at i 0) k)
-
-  pub zamien-exprs : (i j : ℕ) {σ' : State} → HoldsState σ' (on_store (exprs_exchanged i j) σ)
-      → DoesFor σ 0 σ' (λ g ins. row g ins s (nth E i) (nth E j) nothing ZAMIEN)
-  unfolding row exchanged exprs_exchanged
-  zamien-exprs i j k g ins = plain_done h (exprs_exchanged i j) k
-
-  pub zamien-files : (i j : ℕ) {σ' : State} → HoldsState σ' (on_store (files_exchanged i j) σ)
-      → DoesFor σ 0 σ' (λ g ins. row g ins s (nth P i) (nth P j) nothing ZAMIEN)
-  unfolding row exchanged files_exchanged
-  zamien-files i j k g ins = plain_done h (files_exchanged i j) k
-
-  -- ---- SCHOWAJ
 
   module _ (i : ℕ) (reverses at_end : Bool) {j : ℕ} (d : j < limit.expressions) {a : ℕ} (v : Number (address_of_last 0 (file_of s (nth P i)).before) 8388608 a) where
     abbrev saved : Program → Inputs → Row
@@ -110,7 +110,7 @@ module _ {σ : State} (h : Stands σ) where
           → DoesFor σ 0 σ' saved
       schowaj-done {σ'} k g ins =
           rw (row-schowaj g ins)
-          (plain_done h kept (subst (λ (xs : List Component). HoldsState σ' (on_store (into (nth (writing at_end) j) xs) σ)) (components-of held-address) k))
+          (plain_done kept (subst (λ (xs : List Component). HoldsState σ' (on_store (into (nth (writing at_end) j) xs) σ)) (components-of held-address) k))
 
 -- ---- USTAW
 

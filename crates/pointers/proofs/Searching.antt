@@ -10,6 +10,7 @@ use lib.Seq.{take-length}
 use borrow.Author.Tests.{eq-eqb, ne_eqb}
 use Rattle.std.specs.Prelude.{Some, Result, Ok, Err, is_ok, is_some, unwrap_or}
 use Rattle.std.specs.Result.{result_ok}
+use Rattle.std.proofs.lemmas.List.Folds.{list_any-append}
 use Rattle.language.specs.Values.{Record}
 use Rattle.layout.specs.Components.{records_bytes}
 use Rattle.lists.specs.Lists.{any, ahead}
@@ -19,7 +20,6 @@ use Rattle.filing.proofs.Pointers.{ahead_before, ahead_after, first-before, firs
 use Rattle.records.specs.Places.{of_address, place_in, Sought}
 use Rattle.records.specs.declared.Place.{Place}
 use Rattle.records.proofs.Cuts.{cut-long}
-use Rattle.records.proofs.Searches.{any_append}
 use Rattle.pointers.specs.Located.{Located}
 
 pub located-front : {n : ℕ} → n ≡ 0 → (rs : List Record) → Located n rs (Some (record { records = 0; bytes = 0 }))
@@ -50,7 +50,7 @@ module _ {n : ℕ} (some : n ≡ 0 → ⊥) {xs : List Record} {a : List ℕ} (l
       let c : p.records ≡ suc (ahead q xs) = subst (λ (rs : List Record). p.records ≡ suc (ahead q rs)) l.is h.count in
       let m : p.records ≤ length xs = subst (λ (rs : List Record). p.records ≤ length rs) l.is h.cut.most in
       record {
-        is = rw (ne_eqb n 0 some, any_append q xs ts, y) refl;
+        is = rw (ne_eqb n 0 some, list_any-append q xs ts, y) refl;
         place = record {
           count = to_is ts (c ∙ ap suc (sym (ahead_before q ts xs y)));
           bytes_is = first-before xs ts p.records m (bytes_in h);
@@ -62,7 +62,7 @@ module _ {n : ℕ} (some : n ≡ 0 → ⊥) {xs : List Record} {a : List ℕ} (l
     none-before = sym (found_in h)
 
     found-after : {g : Result Place Place} → Sought n b g → (eqb n 0 || any q (xs ++ ts)) ≡ is_ok g
-    found-after w = sym (w.is ∙ rw (ne_eqb n 0 some, any_append q xs ts, none-before, k.is) refl)
+    found-after w = sym (w.is ∙ rw (ne_eqb n 0 some, list_any-append q xs ts, none-before, k.is) refl)
 
     pub located_after : {r : Result Place Place} → Sought n b r → {g : Place} → result_ok r ≡ Some g → Located n (xs ++ ts) (Some (record { records = f.records + g.records; bytes = f.bytes + g.bytes }))
     located_after {r} v {g} o =

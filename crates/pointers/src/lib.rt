@@ -25,19 +25,11 @@ const FRONT: Place = Place {
     bytes: 0,
 };
 
-// How much one address is.
-const ADDRESS: Amount = Amount {
-    parts: 1,
-    bytes: 5,
-    chars: 0,
-};
-
 // COFNIJ of file `i`.
 pub fn cofnij(bench: &mut Bench, i: usize) -> Result<(), Question>
     requires { i < limit.files }
     ensures { DoesFor bench.old.state (told_by result) bench.new.state (λ g ins. row g ins bench.old.state.store (nth P i) nothing nothing COFNIJ) }
 {
-    bench.state.stands();
     filing::point(&mut bench.state, &mut bench.hold, i, FRONT);
     Ok(())
 }
@@ -50,11 +42,13 @@ pub fn schowaj(bench: &mut Bench, i: usize, target: Target) -> Result<(), Questi
 {
     bench.state.stands();
     let a = records::last_address(filing::before_bytes(&bench.state, i)).unwrap_or(0);
-    if !instructions::has_room(&bench.state, ADDRESS) {
+    if !instructions::has_room(&bench.state, Amount::SHORT) {
         return Err(Question::Room);
     }
     components::put_address(&mut bench.hold, 0, a);
-    bench.state.write_parts(target, &bench.hold[..5], ADDRESS);
+    bench
+        .state
+        .write_parts(target, &bench.hold[..5], Amount::SHORT);
     Ok(())
 }
 
@@ -87,7 +81,7 @@ pub fn ustaw(bench: &mut Bench, source: Source, j: usize) -> Result<(), Question
     let Some(place) = locate(&bench.state, j, components::address_of(x)) else {
         return Err(Question::NoRecord);
     };
-    bench.state.past_parts(source, ADDRESS);
+    bench.state.past_parts(source, Amount::SHORT);
     filing::point(&mut bench.state, &mut bench.hold, j, place);
     Ok(())
 }
@@ -98,7 +92,6 @@ pub fn zamien_exprs(bench: &mut Bench, i: usize, j: usize) -> Result<(), Questio
     requires second { j < limit.expressions }
     ensures { DoesFor bench.old.state (told_by result) bench.new.state (λ g ins. row g ins bench.old.state.store (nth E i) (nth E j) nothing ZAMIEN) }
 {
-    bench.state.stands();
     bench.state.exchange_exprs(&mut bench.hold, i, j);
     Ok(())
 }
@@ -110,7 +103,6 @@ pub fn zamien_files(bench: &mut Bench, i: usize, j: usize) -> Result<(), Questio
     requires second { j < limit.files }
     ensures { DoesFor bench.old.state (told_by result) bench.new.state (λ g ins. row g ins bench.old.state.store (nth P i) (nth P j) nothing ZAMIEN) }
 {
-    bench.state.stands();
     filing::exchange_files(&mut bench.state, &mut bench.hold, i, j);
     Ok(())
 }

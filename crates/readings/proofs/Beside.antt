@@ -10,5 +10,5 @@ use Rattle.matching.specs.Tests.{FirstsRoom}
 use Rattle.matching.proofs.OnChars.{firsts-most}
 use Rattle.moves.proofs.Taking.{parts-least}
 
-pub firsts-room : {g : List ℕ} {hold : ℕ} → WholeComponents g → length g ≤ 32768 → 32768 ≤ hold → FirstsRoom hold g
-firsts-room {g} w h m = record { whole = w; room = omega (arith, firsts-most (components_in g), parts-least (components_in g), ap length w.is, h, m) }
+pub firsts-room : {g : List ℕ} {hold : ℕ} → WholeComponents g → length g ≤ hold → FirstsRoom hold g
+firsts-room {g} w h = record { whole = w; room = omega (arith, firsts-most (components_in g), parts-least (components_in g), ap length w.is, h) }

@@ -43,10 +43,10 @@ DoesPassing σ told σ' r = (g : Program) → Does σ told σ' (r g)
 
 -- ---- what is asked
 
--- a test of components, of whose first characters a row has room for
-pub record CharsTakeable (test : Test) : Type 0 where
+-- a test of components, for whose first characters a row of `hold` cells has room
+pub record CharsTakeable (test : Test) (hold : ℕ) : Type 0 where
   pub fitting : Fitting test
-  pub room : compared test ≤ 32768
+  pub room : compared test ≤ hold
 
 -- input i is read up to a place within it
 pub record Unread (σ : State) (input : List ℕ) (i : ℕ) : Type 0 where

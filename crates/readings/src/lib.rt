@@ -1,7 +1,7 @@
 // Reading inputs: CZYTAJ, and USUN of an input.
 #![tactic(auto)]
 
-ghost use Rattle.std.specs.Prelude.{true, [], ◌∷◌};
+ghost use Rattle.std.specs.Prelude.{true, [], ◌∷◌, length};
 ghost use Rattle.language.specs.Letters.Letter.{I};
 ghost use Rattle.language.specs.Program.Arg.{nothing};
 ghost use Rattle.language.specs.Program.Op.{CZYTAJ, USUN};
@@ -32,8 +32,8 @@ pub fn unread<'a>(state: &Working, i: usize, input: &'a [u8]) -> &'a [u8]
 }
 
 // How many of the characters of `s` a test takes; of the words that `Among` compares with only the first characters count.
-pub fn take_chars(hold: &mut [u8; 32768], s: &[u8], test: Test) -> matching::CharsTaken
-    requires { CharsTakeable test }
+pub fn take_chars(hold: &mut [u8], s: &[u8], test: Test) -> matching::CharsTaken
+    requires { CharsTakeable test (length hold.old) }
     ensures { TookChars (until_firsts test.entry) s.now result }
 {
     match test {

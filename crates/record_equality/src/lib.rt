@@ -68,7 +68,7 @@ pub fn rz(table: Table, bench: &mut Bench, i: usize, arg: table::Argument) -> Re
     bench.state.stands();
     let held = comparands::put_comparand(table, &bench.state, &mut bench.given, arg);
     let x = next_record(&bench.state, i);
-    if x.len() == 0 {
+    if x.is_empty() {
         return Err(Question::Missing);
     }
     let len = held?;

@@ -28,12 +28,11 @@ use Rattle.instructions.specs.declared.Question.{Question}
 use Rattle.tests.specs.Prepares.{TestLetter, OtherLetter, TestReadable, Beside, Prepares}
 use Rattle.tests.specs.declared.Prepared.{Prepared}
 use Rattle.tests.proofs.Asked.{test-read, test-asked, test-refused}
-use Rattle.record_tests.specs.RecordPrepares.{whole_letter, whole_index, RecordTestReadable, PreparesRecords}
+use Rattle.record_tests.specs.RecordPrepares.{RecordTestReadable, PreparesRecords}
 
--- where it is 0, the letter is one of tests of components, and compares no whole record
-letter-parts : (l : Letter) (n : ℕ) → OtherLetter l → 0 < n → whole_letter l n ≡ 0 → TestLetter l
-letter-parts l n =
-    listed-letter (λ m. 0 < n → whole_letter m n ≡ 0 → TestLetter m) (bytes "BENT") (λ p z. tt) (λ p z. absurd (omega (arith, p, z))) (λ p z. tt) (λ p z. tt) l
+-- where it is another, the letter is one of tests of components, and compares no whole record
+letter-parts : (l : Letter) → OtherLetter l → (l ≡ E → ⊥) → TestLetter l
+letter-parts = listed-letter (λ m. (m ≡ E → ⊥) → TestLetter m) (bytes "BENT") (λ z. tt) (λ z. absurd (z refl)) (λ z. tt) (λ z. tt)
 
 part-letter : (l : Letter) → TestLetter l → is_whole (use_of (letter_of l)).reading ≡ false
 part-letter = listed-letter (λ m. is_whole (use_of (letter_of m)).reading ≡ false) (bytes "BNT") refl refl refl
@@ -66,9 +65,9 @@ module _ {c : List ℕ} {a : Argument} (h : RecordTestReadable c a) where
         })
 
   -- all else
-  module _ (z : whole_index a ≡ 0) where
+  module _ (z : (n : ℕ) → a ≡ Indexed E n → ⊥) where
     parts-form : (l : Letter) (m : ℕ) → a ≡ Indexed l m → TestLetter l
-    parts-form l m w = letter-parts l m (h.form l m w) (h.good.index l m w).from (sym (ap whole_index w) ∙ z)
+    parts-form l m w = letter-parts l (h.form l m w) (λ e. z m (w ∙ ap (λ x. Indexed x m) e))
 
     pub parts-readable : TestReadable c a
     parts-readable = record { good = h.good; form = parts-form }

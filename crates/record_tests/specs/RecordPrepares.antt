@@ -8,10 +8,9 @@ use Rattle.layout.specs.Bounds.{WholeComponents}
 use Rattle.layout.specs.Components.{components_in}
 use Rattle.records.specs.Sequences.{on_first, until_records, FittingRecords}
 use Rattle.records.specs.declared.RecordTest.{RecordTest}
-use Rattle.table.specs.declared.Letter.{Letter}
-use Rattle.table.specs.declared.Letter.TheVariants.{A, B, C, D, E, I, N, P, Q, T, Y, Z}
+use Rattle.table.specs.declared.Letter.TheVariants.{E}
 use Rattle.table.specs.declared.Argument.{Argument}
-use Rattle.table.specs.declared.Argument.TheVariants.{Nothing, Indexed, Label, Switch, Class, Text, Number}
+use Rattle.table.specs.declared.Argument.TheVariants.{Indexed}
 use Rattle.instructions.specs.Questions.{told_by}
 use Rattle.instructions.specs.declared.Question.{Question}
 use Rattle.instructions.specs.Does.{stop_of}
@@ -19,33 +18,9 @@ use Rattle.tests.specs.Prepares.{OtherLetter, ArgumentGiven, beside_size, until_
 use Rattle.record_tests.specs.declared.RecordsPrepared.{RecordsPrepared}
 use Rattle.record_tests.specs.declared.RecordsPrepared.TheVariants.{First, Whole}
 
--- the index of E, 0 for all else
-abbrev pub whole_letter : Letter → ℕ → ℕ
-whole_letter A n = 0
-whole_letter B n = 0
-whole_letter C n = 0
-whole_letter D n = 0
-whole_letter E n = n
-whole_letter I n = 0
-whole_letter N n = 0
-whole_letter P n = 0
-whole_letter Q n = 0
-whole_letter T n = 0
-whole_letter Y n = 0
-whole_letter Z n = 0
-
-abbrev pub whole_index : Argument → ℕ
-whole_index Nothing = 0
-whole_index (Indexed l n) = whole_letter l n
-whole_index (Label k) = 0
-whole_index (Switch k) = 0
-whole_index (Class m) = 0
-whole_index (Text v) = 0
-whole_index (Number v) = 0
-
 -- r is the index of E, if the argument is that
 abbrev pub WholeOf : Argument → Option ℕ → Type 0
-WholeOf a r = MatchOption r (whole_index a ≡ 0) (λ n. a ≡ Indexed E n)
+WholeOf a r = MatchOption r ((n : ℕ) → a ≡ Indexed E n → ⊥) (λ n. a ≡ Indexed E n)
 
 abbrev pub RecordTestReadable : List ℕ → Argument → Type 0
 RecordTestReadable = ArgumentGiven OtherLetter

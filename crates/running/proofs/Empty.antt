@@ -3,7 +3,7 @@ use mathlib.Core.Path.{◌≡◌, refl, ◌∙◌}
 use mathlib.Core.Bool.{false}
 use mathlib.Core.List.{List, [], ◌∷◌}
 use Prim.Native.Nat.{ℕ}
-use lib.ListN.{replicate}
+use lib.ListN.{replicate, get_or}
 use Rattle.std.proofs.Common.{lit≤}
 use Rattle.language.specs.Limits as limit
 use Rattle.language.specs.Values.{State}
@@ -13,7 +13,8 @@ use Rattle.layout.specs.Components.{components_bytes, records_bytes}
 use Rattle.layout.specs.Memory.{scalars, strings, file_strings}
 use Rattle.layout.specs.Places as layout
 use Rattle.layout.proofs.CellLaws.{each-replicate}
-use Rattle.state.specs.Working.{LiesSo}
+use Rattle.state.specs.declared.Scalars.{Scalars}
+use Rattle.state.specs.Working.{LiesSo, row_of}
 use Rattle.state.proofs.Standing as standing
 
 unfoldable empty : State
@@ -60,5 +61,10 @@ empty-scalars : (0 ∷ 0 ∷ 0 ∷ 0 ∷ 0 ∷ 0 ∷ 0 ∷ 0 ∷ []) ≡ scalars
 unfolding empty held recorded
 empty-scalars = refl
 
-pub lies : {t : List (List ℕ)} → t ≡ replicate layout.strings_count [] → LiesSo t (0 ∷ 0 ∷ 0 ∷ 0 ∷ 0 ∷ 0 ∷ 0 ∷ 0 ∷ [])
-lies q = standing.stands (record { strings_is = q ∙ empty-strings; numbers = empty-scalars; fine = empty-fine })
+-- scalars of which each is 0
+pub row-empty : (n : Scalars) → n.plus ≡ false → get_or n.places 0 0 ≡ 0 → get_or n.places 1 0 ≡ 0 → n.next ≡ 0 → n.last ≡ 0 → n.components ≡ 0
+    → n.characters ≡ 0 → n.records ≡ 0 → row_of n ≡ (0 ∷ 0 ∷ 0 ∷ 0 ∷ 0 ∷ 0 ∷ 0 ∷ 0 ∷ [])
+row-empty n h a b c d e f g = rw (h, a, b, c, d, e, f, g) refl
+
+pub lies : {t : List (List ℕ)} {n : List ℕ} → t ≡ replicate layout.strings_count [] → n ≡ (0 ∷ 0 ∷ 0 ∷ 0 ∷ 0 ∷ 0 ∷ 0 ∷ 0 ∷ []) → LiesSo t n
+lies q r = standing.stands (record { strings_is = q ∙ empty-strings; numbers = r ∙ empty-scalars; fine = empty-fine })

@@ -6,8 +6,7 @@ ghost use Rattle.std.specs.Prelude.{◌≡◌};
 ghost use Rattle.running.specs.Running.{stop_number, RanTo, Runnable, RanOn};
 
 use instructions::{Bench, Question, Task};
-use layout::StatePlaces;
-use state::Working;
+use state::{Scalars, Working};
 use strings::Strings;
 
 // The number of a pause.
@@ -54,11 +53,11 @@ pub fn run(task: Task, state: &mut [u8], budget: u32) -> Ran
     ensures { RanOn task.entry.table.cells.now task.entry.first.now task.entry.second.now budget state.old result state.new }
 {
     let strings = Strings::new();
-    let nums = [0; StatePlaces::SCALARS_COUNT];
+    let scalars = Scalars::default();
     let hold = [0; 32768];
     let given = [0; 32768];
     let mut bench = Bench {
-        state: Working { strings, nums },
+        state: Working { strings, scalars },
         hold,
         given,
     };

@@ -15,6 +15,7 @@ use Rattle.machine.specs.Effects.{Row, row}
 use Rattle.machine.specs.Effects.Go.{on}
 use Rattle.state.specs.Working.{Stands, nth, reading}
 use Rattle.instructions.specs.Does.{DoesFor, Quiet, Tried}
+use Rattle.instructions.specs.Fronts.{front_part}
 use Rattle.instructions.specs.Questions.{question_number, told_by}
 use Rattle.instructions.specs.declared.Question.{Question}
 use Rattle.instructions.proofs.Asking.{some}
@@ -22,7 +23,7 @@ use Rattle.instructions.proofs.Answers.{unstopped, quiet-stop, quiet-tried}
 use Rattle.tests.specs.Prepares.{Prepares, until_firsts_in}
 use Rattle.tests.specs.declared.Prepared.{Prepared}
 use Rattle.tests.proofs.Asked.{quiet-and, quiet-test, test-read}
-use Rattle.splitting.specs.Splitting.{front_part, split_up, WordAsked}
+use Rattle.splitting.specs.Splitting.{split_up, WordAsked}
 
 row-rozbij : (g : Program) (ins : Inputs) (s : Store) (i : ℕ) (c : Arg) (removes : Bool)
     → row g ins s (nth (reading removes) i) c nothing ROZBIJ ≡ (needs 0 (front_part s i) & test_asks ins s c, split_up (on_chars ins s c) removes i s, on)

@@ -7,6 +7,7 @@ use native.Mathlib.Omega.{arith}
 use lib.Dec.{leb}
 use lib.ListN.{length, take, length-take}
 use borrow.Author.Tests.{leb-true}
+use Rattle.std.proofs.lemmas.Bool.{and_parts}
 use Rattle.language.specs.Limits as limit
 use Rattle.language.specs.Letters.Letter.{E}
 use Rattle.language.specs.Values.{Component, Store, State, chars}
@@ -26,11 +27,11 @@ use Rattle.state.specs.Limited.{Limited}
 use Rattle.state.proofs.Fits.{fine-limited, fits-minus_unless, fits-into-ok}
 use Rattle.state.proofs.Freed.{limited-past, components-past, chars-past}
 use Rattle.instructions.specs.Does.{room_after}
+use Rattle.instructions.specs.Fronts.{front_part}
 use Rattle.instructions.proofs.Room.{room-freed}
-use Rattle.instructions.proofs.Written.{both}
 use Rattle.moves.proofs.Taking.{parts-least}
 use Rattle.readings.proofs.Below.Words.{written_is}
-use Rattle.splitting.specs.Splitting.{front_part, split_up, FirstWord}
+use Rattle.splitting.specs.Splitting.{split_up, FirstWord}
 use Rattle.splitting.proofs.Asking.{first-in}
 
 -- ---- words of one character
@@ -145,7 +146,7 @@ module _ {σ : State} {i : ℕ} {x : List ℕ} (b : i < limit.expressions) (l : 
               → HoldsState σ' (on_store (past (nth (reading removes) i) 1) σ) → PartsWritable σ' i (take m o') t.taken t.taken
           unfolding on_store
           writable r g =
-              let d = both (leb (components_held z + t.taken) limit.components) (leb (chars_held z + t.taken) limit.characters) (sym room-is ∙ r) in
+              let d = and_parts (leb (components_held z + t.taken) limit.components) (leb (chars_held z + t.taken) limit.characters) (sym room-is ∙ r) in
               record {
                 index = b;
                 whole = whole-components encoded;

@@ -10,13 +10,10 @@ use Rattle.table.specs.declared.Argument.{Argument}
 use Rattle.instructions.specs.Questions.{told_by}
 use Rattle.instructions.specs.declared.Question.{Question}
 use Rattle.instructions.specs.Does.{stop_of}
+use Rattle.instructions.specs.Fronts.{front_part}
 use Rattle.tests.specs.declared.Prepared.{Prepared}
 use Rattle.moves.specs.Moves.{TestBeside}
 use Rattle.readings.specs.Below.Joining.{WordsJoinable}
-
--- the first component of expression i, if it has one
-abbrev pub front_part : Store → ℕ → List Component
-front_part s i = take 1 (expr s (nth E i))
 
 -- the characters that u takes of the first word of expression i are words in front; with A the rest of the word goes
 unfoldable pub split_up : Until ℕ → Bool → ℕ → Store → Store

@@ -58,12 +58,7 @@ fn split_up(bench: &mut Bench, test: Prepared, source: Source) -> Result<(), Que
     ensures { Tried bench.old.state (told_by result) bench.new.state true (split_up (until_firsts_in test bench.old.given) source.removes source.i bench.old.state.store) }
 {
     let w = components::chars_of(bench.state.expr_bytes(source.i));
-    let m = w.len();
-    let word = Amount {
-        parts: 1,
-        bytes: 1 + m,
-        chars: m,
-    };
+    let word = Amount::word(w.len());
     let t = readings::take_chars(&mut bench.hold, w, test.with(&bench.given));
     let k = t.taken;
     let n = components::split(&mut bench.hold, &w[..k]);

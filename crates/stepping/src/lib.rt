@@ -10,7 +10,6 @@ ghost use Rattle.stepping.specs.Orders.{GoingOn};
 
 use instructions::{Bench, Question, Task};
 use language::Operator;
-use layout::StatePlaces;
 use perform_equality::from_perform_moves;
 use table::Instruction;
 
@@ -83,7 +82,7 @@ pub fn step(task: Task, bench: &mut Bench) -> Result<(), Question>
     requires { Steppable task.table.cells.now task.first.now task.second.now bench.old.state }
     ensures { Stepped task.entry.table.cells.now task.entry.first.now task.entry.second.now bench.old.state (told_by result) bench.new.state }
 {
-    let i = bench.state.number(StatePlaces::NEXT_SCALAR);
+    let i = bench.state.next_instruction();
     let instruction = task.table.instruction_at(i);
     if leading(instruction.op) {
         return perform_jumps::perform_jump(task.table, &mut bench.state, instruction);

@@ -24,7 +24,8 @@ use Rattle.layout.proofs.ComponentLaws.{components-none, next-component}
 use Rattle.layout.specs.Components.{component_size, component_in, components_bytes, components_in}
 use Rattle.layout.specs.Table.{label_in, entry_in, program_of}
 use Rattle.packed.specs.Packed.{table_of}
-use Rattle.components.specs.Parts.{first_size, Leading, LentChars}
+use Rattle.components.specs.Parts.{Leading, AmountOfFirst}
+use Rattle.components.specs.declared.Amount.{Amount}
 use Rattle.components.proofs.Walks.{first_is}
 use Rattle.state.specs.Working.{HoldsState, on_store, nth, reading}
 use Rattle.state.specs.Blocks.{ExprLent, PartsDroppable}
@@ -32,8 +33,9 @@ use Rattle.table.specs.Good.{GoodSwitch}
 use Rattle.table.specs.GoodLaws.{switch-length, switch-entries, switch-entry, entry-target, entry-label}
 use Rattle.table.specs.Reads.{switch_first, switch_size, entries_from}
 use Rattle.instructions.specs.Does.{stop_of}
+use Rattle.instructions.specs.Fronts.{front_part}
 use Rattle.instructions.proofs.Answers.{unstopped}
-use Rattle.switches.specs.Switches.{front, entries_at, met_entry, numbered_entry, Entered, Goal}
+use Rattle.switches.specs.Switches.{entries_at, met_entry, numbered_entry, Entered, Goal}
 
 -- ---- what is asked of the component in front
 
@@ -41,8 +43,8 @@ and-true : (a : Bool) → (a && true) ≡ true → a ≡ true
 and-true true q = refl
 and-true false q = q
 
-pub some-front : (s : Store) (i k : ℕ) → 0 ≡ stop_of (needs k (front s i)) → filled (front s i) ≡ true
-some-front s i k q = and-true (filled (front s i)) (unstopped (needs k (front s i)) (sym q)).0
+pub some-front : (s : Store) (i k : ℕ) → 0 ≡ stop_of (needs k (front_part s i)) → filled (front_part s i) ≡ true
+some-front s i k q = and-true (filled (front_part s i)) (unstopped (needs k (front_part s i)) (sym q)).0
 
 -- ---- the bytes of an expression
 
@@ -53,32 +55,31 @@ module _ {σ : State} {i : ℕ} {x : List ℕ} (l : ExprLent σ i x) where
   parts_are : (length x ≡ 0 → ⊥) → expr s (nth E i) ≡ component_in x ∷ components_in (drop (component_size (cell x 0)) x)
   parts_are z = sym l.is ∙ (next-component l.whole (omega (arith, z))).is
 
-  front-none : length x ≡ 0 → front s i ≡ []
+  front-none : length x ≡ 0 → front_part s i ≡ []
   front-none z = ap (λ (xs : List Component). take 1 xs) (sym l.is ∙ components-none x z)
 
-  front-one : (length x ≡ 0 → ⊥) → front s i ≡ component_in x ∷ []
+  front-one : (length x ≡ 0 → ⊥) → front_part s i ≡ component_in x ∷ []
   front-one z = ap (λ (xs : List Component). take 1 xs) (parts_are z)
 
   pub leading : (length x ≡ 0 → ⊥) → Leading x
   leading z = record { fits = (next-component l.whole (omega (arith, z))).fits }
 
   -- where there is a component
-  module _ (f : filled (front s i) ≡ true) where
+  module _ (f : filled (front_part s i) ≡ true) where
     pub some-there : length x ≡ 0 → ⊥
     some-there z = subst T (sym (sym (ap filled (front-none z)) ∙ f)) tt
 
-    pub first-there : first (front s i) ≡ component_in x
+    pub first-there : first (front_part s i) ≡ component_in x
     first-there = ap first (front-one some-there)
 
-    pub droppable : {size : ℕ} {w : List ℕ} → Number (first_size x) 257 size → LentChars (component_in x) w → i < limit.expressions
-        → PartsDroppable σ i 1 size (length w)
-    droppable {size} {w} a b j =
+    pub droppable : {a : Amount} → AmountOfFirst x a → i < limit.expressions → PartsDroppable σ i a.parts a.bytes a.chars
+    droppable {a} b j =
         record {
           index = j;
           first = record {
-            most = rw (parts_are some-there) (omega arith);
-            bytes_is = subst (λ (xs : List Component). size ≡ length (components_bytes (take 1 xs))) l.is (a.is ∙ first_is l.whole);
-            chars_is = rw (front-one some-there, b.is) (omega arith);
+            most = rw (b.parts_are, parts_are some-there) (omega arith);
+            bytes_is = rw b.parts_are (subst (λ (xs : List Component). a.bytes ≡ length (components_bytes (take 1 xs))) l.is (b.bytes_are.is ∙ first_is l.whole));
+            chars_is = rw (b.parts_are, front-one some-there, b.chars_are) (omega arith);
           };
         }
 
@@ -97,10 +98,10 @@ module _ {c : List ℕ} {k : ℕ} (g : GoodSwitch c k) where
   t = table_of c
 
   module _ {f m : ℕ} (a : Number (switch_first t k) 8388608 f) (b : Number (switch_size t k) 256 m) where
-    pub found : (u : Store) (i : ℕ) {w : List ℕ} {o : Option ℕ} → w ≡ chars (first (front u i)) → o ≡ position (λ x. meets (program_of c) x w) (entries_from t f m)
+    pub found : (u : Store) (i : ℕ) {w : List ℕ} {o : Option ℕ} → w ≡ chars (first (front_part u i)) → o ≡ position (λ x. meets (program_of c) x w) (entries_from t f m)
         → o ≡ met_entry c k u i
     found u i q h =
-        let v = chars (first (front u i)) in
+        let v = chars (first (front_part u i)) in
         h ∙ ap (λ (y : List ℕ). position (λ x. meets (program_of c) x y) (entries_from t f m)) q
         ∙ ap (λ (y : ℕ). position (λ x. meets (program_of c) x v) (entries_from t y m)) a.is
         ∙ ap (λ (y : ℕ). position (λ x. meets (program_of c) x v) (entries_from t (switch_first t k) y)) b.is
@@ -127,10 +128,10 @@ above-is (pos (suc n)) m v q b =
     (rw (lt-ltb 0 (suc n) (omega arith)) (ap (λ (y : ℕ). leb (suc y) m) (sym r)), sym r)
 above-is (negsuc n) m v q b = absurd (omega (arith, q))
 
-module _ {c : List ℕ} {k : ℕ} (g : GoodSwitch c k) {σ : State} {i : ℕ} {x : List ℕ} (l : ExprLent σ i x) (f : filled (front σ.store i) ≡ true) {v : ℕ}
+module _ {c : List ℕ} {k : ℕ} (g : GoodSwitch c k) {σ : State} {i : ℕ} {x : List ℕ} (l : ExprLent σ i x) (f : filled (front_part σ.store i) ≡ true) {v : ℕ}
     (q : Number (code (value (component_in x))) 16777216 v) where
   abbrev z : ℤ
-  z = value (first (front σ.store i))
+  z = value (first (front_part σ.store i))
 
   abbrev n : ℕ
   n = length (entries_at c k)

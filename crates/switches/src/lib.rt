@@ -31,13 +31,7 @@ fn use_front(state: &mut Working, source: Source)
     ensures { HoldsState state.new (on_store (used (nth (reading source.removes) source.i)) state.old) }
 {
     let x = state.expr_bytes(source.i);
-    let bytes = components::first_size(x);
-    let chars = components::chars_of(x).len();
-    let first = Amount {
-        parts: 1,
-        bytes,
-        chars,
-    };
+    let first = Amount::of_first(x);
     state.past_parts(source, first);
 }
 

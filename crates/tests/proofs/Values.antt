@@ -1,7 +1,7 @@
 -- What the arguments of tests ask and mean, form by form.
 use mathlib.Core.Path.{◌≡◌, refl, sym, ap, ◌∙◌, subst, fun_ext}
-use mathlib.Core.Bool.{Bool, true, false, ◌||◌}
-use mathlib.Core.List.{List, [], ◌∷◌, map, append-nil}
+use mathlib.Core.Bool.{Bool, true, false, or-false}
+use mathlib.Core.List.{List, [], ◌∷◌, append-nil, map-id}
 use Prim.Native.Nat.{ℕ, suc, ◌+◌, ◌-◌, ◌≤◌, ◌<◌}
 use native.Mathlib.Omega.{arith}
 use lib.IntN.{ℤ}
@@ -63,14 +63,6 @@ word-encoded w a b = record { is = sym (components_bytes-one (word w)); all_ok =
 
 -- ---- the forms
 
-pub map_same : (xs : List Component) → map (λ x. x) xs ≡ xs
-map_same [] = refl
-map_same (x ∷ xs) = ap (λ l. x ∷ l) (map_same xs)
-
-or-false : (b : Bool) → b ≡ (b || false)
-or-false true = refl
-or-false false = refl
-
 module _ (s : Store) (g : List ℕ) where
   refused : (c : Arg) (q : Question) → ((ins : Inputs) → question_number q ≡ stop_of (test_asks ins s c))
       → (question_number q ≡ 54 → (ins : Inputs) → on_parts ins s c ≡ number_of 0) → Prepares s c g (Err q)
@@ -111,7 +103,7 @@ module _ (s : Store) (g : List ℕ) where
           read (nth B i) (Among n) (λ ins. sym (ap told_by e) ∙ w.told ∙ asks-first ins)
           record {
             fitting = whole-components c;
-            parts = λ ins. ap (λ ys. up_to (λ x. any (same x) ys)) (map_same (take 1 es) ∙ sym (components-of c));
+            parts = λ ins. ap (λ ys. up_to (λ x. any (same x) ys)) (map-id (take 1 es) ∙ sym (components-of c));
             chars = λ ins. chars-one ins s B (suc i) ∙ ap (λ ys. up_to (λ b. among b (first_chars ys))) (sym (components-of c));
             most = h.most;
             inside = h.inside;
@@ -124,7 +116,7 @@ module _ (s : Store) (g : List ℕ) where
         read (nth T i) (Among n) (λ ins. refl)
         record {
           fitting = whole-components c;
-          parts = λ ins. ap (λ ys. up_to (λ x. any (same x) ys)) (map_same es ∙ sym (components-of c));
+          parts = λ ins. ap (λ ys. up_to (λ x. any (same x) ys)) (map-id es ∙ sym (components-of c));
           chars = λ ins. chars-any ins s T (suc i) ∙ ap (λ ys. up_to (λ b. among b (first_chars ys))) (sym (components-of c));
           most = h.most;
           inside = h.inside;
@@ -185,7 +177,7 @@ module _ (s : Store) (g : List ℕ) where
       read (text w) (Among n) (λ ins. refl)
       record {
         fitting = whole-components c;
-        parts = λ ins. ap up_to (fun_ext (λ x. or-false (same x (word w)))) ∙ ap (λ ys. up_to (λ x. any (same x) ys)) (sym (components-of c));
+        parts = λ ins. ap up_to (fun_ext (λ x. sym (or-false (same x (word w))))) ∙ ap (λ ys. up_to (λ x. any (same x) ys)) (sym (components-of c));
         chars = λ ins. chars-text ins s w ∙ ap (λ ys. up_to (λ b. among b ys)) (sym (append-nil (take 1 w)) ∙ ap first_chars (sym (components-of c)));
         most = h.most;
         inside = h.inside;

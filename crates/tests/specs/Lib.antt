@@ -1,2 +1,1 @@
 pub mod Prepares
-pub mod Below

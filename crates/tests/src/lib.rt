@@ -1,7 +1,7 @@
 // Reading the values of a test: "A move first reads its test's values".
 #![tactic(auto)]
 
-ghost use Rattle.std.specs.Prelude.{[], ◌∷◌, ◌<◌, ◌≤◌, length, take};
+ghost use Rattle.std.specs.Prelude.{[], ◌∷◌, ◌<◌, ◌≤◌, length};
 ghost use Rattle.language.specs.Letters as letters;
 ghost use Rattle.language.specs.Limits as limit;
 ghost use Rattle.language.specs.Program.Arg.{letter};
@@ -9,6 +9,7 @@ ghost use Rattle.language.specs.Values as values;
 ghost use Rattle.machine.specs.Arguments.{expr, present};
 ghost use Rattle.table.specs.Below.Packed.{table_of};
 ghost use Rattle.state.specs.Working.{nth};
+ghost use Rattle.instructions.specs.Fronts.{front_part};
 ghost use Rattle.table.specs.Good.{GoodText};
 ghost use Rattle.table.specs.Denote.{letter_of, arg_of, text_of};
 ghost use Rattle.tests.specs.Prepares.{LetterReadable, TestReadable, Beside, PutBeside, Prepares, beside_size, TestOf, NumberPrepares, CountPrepares};
@@ -47,10 +48,10 @@ impl Prepared {
 // Puts the first component of expression `i` in front of `given`.
 pub fn put_first(state: &Working, given: &mut [u8; 32768], i: usize) -> Result<usize, Question>
     requires { i < limit.expressions }
-    ensures { PutBeside (present (take 1 (expr state.now.store (nth letters.Letter.E i)))) (take 1 (expr state.now.store (nth letters.Letter.E i))) given.new result }
+    ensures { PutBeside (present (front_part state.now.store i)) (front_part state.now.store i) given.new result }
 {
     let x = state.expr_bytes(i);
-    if x.len() == 0 {
+    if x.is_empty() {
         return Err(Question::Missing);
     }
     let n = components::size_by(x[0]);

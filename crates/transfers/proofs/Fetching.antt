@@ -7,6 +7,7 @@ use native.Mathlib.Omega.{arith}
 use lib.Dec.{leb}
 use lib.ListN.{length, take, drop}
 use borrow.Author.Tests.{le-leb, leb-true}
+use Rattle.std.proofs.lemmas.Bool.{and_parts}
 use Rattle.cells.specs.Cells.{pasted}
 use Rattle.cells.proofs.Laws.{pasted-front}
 use Rattle.lists.specs.Lists.{total, if_any}
@@ -41,7 +42,7 @@ use Rattle.instructions.specs.Does.{DoesFor}
 use Rattle.instructions.specs.Operands.{target}
 use Rattle.instructions.proofs.Answers.{one-after}
 use Rattle.instructions.proofs.Storing.{plain_done, plain-full}
-use Rattle.instructions.proofs.Written.{both, into-target}
+use Rattle.instructions.proofs.Written.{into-target}
 use Rattle.transfers.proofs.Inserting.{plus-same}
 
 -- ---- the first record
@@ -73,7 +74,7 @@ module _ {σ : State} (h : Stands σ) (removes : Bool) {i : ℕ} (a : i < limit.
 
   pub pobierz-none : length f ≡ 0 → {σ' : State} → HoldsState σ' (on_store (with_plus false) σ) → DoesFor σ 0 σ' by
   unfolding minus
-  pobierz-none z k g ins = rw (row-none removes g ins (sym l.is ∙ records-none f z)) (plain_done h (with_plus false) k)
+  pobierz-none z k g ins = rw (row-none removes g ins (sym l.is ∙ records-none f z)) (plain_done (with_plus false) k)
 
   module _ (z : length f ≡ 0 → ⊥) where
     abbrev r : Record
@@ -174,7 +175,7 @@ module _ {σ : State} (h : Stands σ) (removes : Bool) {i : ℕ} (a : i < limit.
             pobierz-writable =
                 let st = g.is in
                 let i = components-of new-encoded in
-                let room = both (leb (components_held s + c) limit.components) (leb (chars_held s + m) limit.characters) (sym q ∙ o) in
+                let room = and_parts (leb (components_held s + c) limit.components) (leb (chars_held s + m) limit.characters) (sym q ∙ o) in
                 record {
                   index = d;
                   whole = whole-components new-encoded;
@@ -188,6 +189,6 @@ module _ {σ : State} (h : Stands σ) (removes : Bool) {i : ℕ} (a : i < limit.
                 → DoesFor σ 0 σ'' by
             pobierz-done {σ'' = σ''} k' g' ins =
                 rw (row_is g' ins)
-                (plain_done h fetched
+                (plain_done fetched
                 (one-after σ then (into (nth (writing at_end) j) ys) g
                 (subst (λ (zs : List Component). HoldsState σ'' (on_store (into (nth (writing at_end) j) zs) σ')) (components-of new-encoded) k')))

@@ -95,7 +95,7 @@ module _ {σ : State} (h : Stands σ) (removes : Bool) {i : ℕ} (a : i < limit.
   unfolding minus
   wstaw-none z k g ins =
       let q : xs ≡ [] = sym l.is ∙ components-none x z in
-      rw (row_by removes g ins, ap filled q) (plain_done h (with_plus false) k)
+      rw (row_by removes g ins, ap filled q) (plain_done (with_plus false) k)
 
   module _ (z : length x ≡ 0 → ⊥) {t : Taken} (k : Took everything (components_in x) t) where
     took : Took everything xs t
@@ -193,4 +193,4 @@ module _ {σ : State} (h : Stands σ) (removes : Bool) {i : ℕ} (a : i < limit.
             pub wstaw-done : {σ'' : State} → HoldsState σ'' (on_store (stored (nth (filing b) j) (bodies b (take (length x + 7) o'))) σ')
                 → DoesFor σ 0 σ'' by
             wstaw-done f g' ins =
-                rw (row_is g' ins, plus-same (inserted s)) (plain_done h inserted (lot-stored lot b d σ (then t.amount.parts) refl g new-record f))
+                rw (row_is g' ins, plus-same (inserted s)) (plain_done inserted (lot-stored lot b d σ (then t.amount.parts) refl g new-record f))

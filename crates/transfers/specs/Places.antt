@@ -7,11 +7,11 @@ use Rattle.layout.specs.Bounds.{Each, Ok}
 use Rattle.layout.specs.Memory.{components_held, chars_held, records_held}
 use Rattle.state.specs.Limited.{Limited}
 use Rattle.state.specs.Working.{char_count}
+use Rattle.instructions.specs.Does.{has_room}
 
 -- so many records, components and characters more are within the limits
 abbrev pub has_places : Store → ℕ → ℕ → ℕ → Bool
-has_places s records parts chars =
-    leb (components_held s + parts) limit.components && leb (chars_held s + chars) limit.characters && leb (records_held s + records) limit.records
+has_places s records parts chars = has_room s parts chars && leb (records_held s + records) limit.records
 
 -- 59, 60 where so many addresses more are too many, or 0
 abbrev pub room_of : Store → ℕ → ℕ → ℕ → ℕ → ℕ

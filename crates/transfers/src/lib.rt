@@ -15,7 +15,6 @@ ghost use Rattle.transfers.specs.Places.{room_of, Growing};
 use components::Amount;
 use instructions::{Bench, FileTarget, Question, Source, Target};
 use language::Machine;
-use layout::StatePlaces;
 use state::Working;
 
 // Whether so many records, so much in them and so many addresses more are within the limits.
@@ -27,10 +26,10 @@ pub fn room_for(state: &Working, records: usize, more: Amount, given: usize) -> 
     if !instructions::has_room(state, more) {
         return Err(Question::Room);
     }
-    if Machine::RECORDS < state.number(StatePlaces::RECORDS_SCALAR) + records {
+    if Machine::RECORDS < state.records() + records {
         return Err(Question::Room);
     }
-    if Machine::ADDRESSES < state.number(StatePlaces::LAST_SCALAR) + given {
+    if Machine::ADDRESSES < state.last() + given {
         return Err(Question::Addresses);
     }
     Ok(())
@@ -51,7 +50,7 @@ pub fn wstaw(bench: &mut Bench, source: Source, target: FileTarget) -> Result<()
     let t = matching::count(x, matching::Test::All);
     let amount = t.amount;
     room_for(&bench.state, 1, source.amount_left(amount), 1)?;
-    let last = bench.state.number(StatePlaces::LAST_SCALAR);
+    let last = bench.state.last();
     records::put_record(&mut bench.hold, last + 1, x);
     bench.state.past_parts(source, amount);
     let record = Amount {
@@ -71,7 +70,7 @@ pub fn pobierz(bench: &mut Bench, source: Source, target: Target) -> Result<(), 
 {
     bench.state.stands();
     let f = filing::after_bytes(&bench.state, source.i);
-    if f.len() == 0 {
+    if f.is_empty() {
         bench.state.set_plus(false);
         return Ok(());
     }

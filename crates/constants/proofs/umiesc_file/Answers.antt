@@ -11,14 +11,14 @@ returns-in_err-room_for c =
 
 pub put_record-requires : goal.put_record-requires
 put_record-requires c =
-    file-recordable c.stands.ensures c.put_constant-c.ensures c.args.target.reverses c.requires.index c.in_ok-room_for.ensures c.number-last.ensures.is (search)
+    file-recordable c.stands.ensures c.put_constant-c.ensures c.args.target.reverses c.requires.index c.in_ok-room_for.ensures c.last-last.ensures.is (search)
 
 pub write_records-requires : goal.write_records-requires
 write_records-requires c =
-    file-writable c.stands.ensures c.put_constant-c.ensures c.args.target.reverses c.requires.index c.in_ok-room_for.ensures c.number-last.ensures.is c.args.bench.now.hold
+    file-writable c.stands.ensures c.put_constant-c.ensures c.args.target.reverses c.requires.index c.in_ok-room_for.ensures c.last-last.ensures.is c.args.bench.now.hold
     c.put_record.ensures
 
 pub returns : goal.returns
 returns c =
-    file-done c.stands.ensures c.put_constant-c.ensures c.args.target.reverses c.requires.index c.in_ok-room_for.ensures c.number-last.ensures.is c.args.bench.now.hold
+    file-done c.stands.ensures c.put_constant-c.ensures c.args.target.reverses c.requires.index c.in_ok-room_for.ensures c.last-last.ensures.is c.args.bench.now.hold
     c.put_record.ensures c.write_records.ensures

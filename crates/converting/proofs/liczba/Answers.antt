@@ -9,8 +9,11 @@ returns-in_err-w c =
     let o = c.first_numeral.ensures in
     rw (e.1, e.2) (liczba-stop o.stands c.args.source.removes c.args.source.i o.reads c.in_err-w.was)
 
+pub word-word-requires : goal.word-word-requires
+word-word-requires c = (spelled_ok c.first_numeral.ensures.reads c.in_ok-w.was).letters_most
+
 pub replace-requires : goal.replace-requires
-replace-requires c = number-replaceable c.args.bench.now.state c.requires (spelled_ok c.first_numeral.ensures.reads c.in_ok-w.was) _ c.put_number.ensures
+replace-requires c = rw c.word-word.ensures (number-replaceable c.args.bench.now.state c.requires (spelled_ok c.first_numeral.ensures.reads c.in_ok-w.was) _ c.put_number.ensures)
 
 pub returns : goal.returns
 returns c =

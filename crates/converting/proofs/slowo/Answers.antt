@@ -10,7 +10,7 @@ returns-in_err-code c =
     rw (e.1, e.2) (slowo-stop o.stands c.args.source.removes c.args.source.i o.reads c.in_err-code.was)
 
 pub replace-requires : goal.replace-requires
-replace-requires c = word-replaceable c.args.bench.now.state c.requires (number_ok c.first_number.ensures.reads c.in_ok-code.was) c.put_numeral-n.ensures
+replace-requires c = rw c.word-word.ensures (word-replaceable c.args.bench.now.state c.requires (number_ok c.first_number.ensures.reads c.in_ok-code.was) c.put_numeral-n.ensures)
 
 pub returns : goal.returns
 returns c =

@@ -25,7 +25,7 @@ pub restamp-requires : goal.restamp-requires
 restamp-requires c =
     let a = c.args in
     copyable a.bench.now.state c.requires.source c.after_bytes-f.ensures (rw c.with.ensures.records at c.count-t.ensures) c.totals_of-v.ensures c.stands.ensures a.source.removes a.target.reverses c.requires.target
-    c.left.ensures (ap (λ (r : Amount). r.parts) c.amount_left.ensures) (ap (λ (r : Amount). r.chars) c.amount_left.ensures) c.in_ok-room_for.ensures c.number-last.ensures.is (search)
+    c.left.ensures (ap (λ (r : Amount). r.parts) c.amount_left.ensures) (ap (λ (r : Amount). r.chars) c.amount_left.ensures) c.in_ok-room_for.ensures c.last-last.ensures.is (search)
 
 pub past_records-requires : goal.past_records-requires
 past_records-requires c = droppable c.args.bench.now.state c.requires.source c.after_bytes-f.ensures (rw c.with.ensures.records at c.count-t.ensures) c.totals_of-v.ensures
@@ -34,10 +34,10 @@ pub file_copies-requires : goal.file_copies-requires
 file_copies-requires c =
     let a = c.args in
     copy-writable a.bench.now.state c.requires.source c.after_bytes-f.ensures (rw c.with.ensures.records at c.count-t.ensures) c.totals_of-v.ensures c.stands.ensures a.source.removes a.target.reverses c.requires.target
-    c.left.ensures (ap (λ (r : Amount). r.parts) c.amount_left.ensures) (ap (λ (r : Amount). r.chars) c.amount_left.ensures) c.in_ok-room_for.ensures c.number-last.ensures.is a.bench.now.hold c.restamp.ensures c.past_records.ensures
+    c.left.ensures (ap (λ (r : Amount). r.parts) c.amount_left.ensures) (ap (λ (r : Amount). r.chars) c.amount_left.ensures) c.in_ok-room_for.ensures c.last-last.ensures.is a.bench.now.hold c.restamp.ensures c.past_records.ensures
 
 pub returns : goal.returns
 returns c =
     let a = c.args in
     copy_done a.bench.now.state c.requires.source c.after_bytes-f.ensures (rw c.with.ensures.records at c.count-t.ensures) c.totals_of-v.ensures c.stands.ensures a.source.removes a.target.reverses c.requires.target
-    c.left.ensures (ap (λ (r : Amount). r.parts) c.amount_left.ensures) (ap (λ (r : Amount). r.chars) c.amount_left.ensures) c.in_ok-room_for.ensures c.number-last.ensures.is a.bench.now.hold c.restamp.ensures c.past_records.ensures c.file_copies.ensures
+    c.left.ensures (ap (λ (r : Amount). r.parts) c.amount_left.ensures) (ap (λ (r : Amount). r.chars) c.amount_left.ensures) c.in_ok-room_for.ensures c.last-last.ensures.is a.bench.now.hold c.restamp.ensures c.past_records.ensures c.file_copies.ensures

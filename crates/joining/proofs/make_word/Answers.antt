@@ -1,5 +1,4 @@
 -- `joining::make_word` meets its contract.
-use native.Mathlib.Omega.{arith}
 use mathlib.Core.Path.{sym, ◌∙◌}
 use lib.ListN.{length}
 use borrow.Author.Tests.{eqb-true, eqb-false}
@@ -13,4 +12,4 @@ returns-then-is_empty c =
 pub returns : goal.returns
 returns c =
     let some = eqb-false (length c.args.w.now) 0 (sym c.is_empty.ensures ∙ c.if-is_empty.false) in
-    made c.args.out.now c.args.w.now some (omega arith) c.requires c.put_word.ensures
+    made c.args.out.now c.args.w.now some c.requires.room c.requires.most c.put_word.ensures

@@ -6,4 +6,4 @@ pub point-requires : goal.point-requires
 point-requires c = front-pointable c.requires
 
 pub returns : goal.returns
-returns c = cofnij-done c.stands.ensures c.args.i c.point.ensures
+returns c = cofnij-done c.args.i c.point.ensures

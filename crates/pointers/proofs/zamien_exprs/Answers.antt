@@ -3,4 +3,4 @@ use Rattle.pointers.proofs.Rows.{zamien-exprs}
 use Rattle.pointers.proofs.zamien_exprs.Goals as goal
 
 pub returns : goal.returns
-returns c = zamien-exprs c.stands.ensures c.args.i c.args.j c.exchange_exprs.ensures
+returns c = zamien-exprs c.args.i c.args.j c.exchange_exprs.ensures

@@ -3,4 +3,4 @@ use Rattle.pointers.proofs.Rows.{zamien-files}
 use Rattle.pointers.proofs.zamien_files.Goals as goal
 
 pub returns : goal.returns
-returns c = zamien-files c.stands.ensures c.args.i c.args.j c.exchange_files.ensures
+returns c = zamien-files c.args.i c.args.j c.exchange_files.ensures

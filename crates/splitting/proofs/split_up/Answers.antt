@@ -29,24 +29,24 @@ pub returns-then-not-has_room_after : goal.returns-then-not-has_room_after
 returns-then-not-has_room_after c =
     let x = c.expr_bytes.ensures in
     tried-full x.stands _ refl
-    (fits-split c.requires.source x c.requires.first_word c.chars_of-w.ensures (rw c.with.ensures.firsts at c.take_chars-t.ensures) c.args.source.removes ∙ rw c.freed.ensures at (sym c.has_room_after.ensures) ∙ c.if-not-has_room_after.true)
+    (fits-split c.requires.source x c.requires.first_word c.chars_of-w.ensures (rw c.with.ensures.firsts at c.take_chars-t.ensures) c.args.source.removes ∙ rw (c.freed.ensures, c.word-word.ensures) at (sym c.has_room_after.ensures) ∙ c.if-not-has_room_after.true)
 
 pub has_room_after-requires : goal.has_room_after-requires
 has_room_after-requires c =
     let few = c.chars_of-w.ensures.most in
     record {
-      freed = freed-few _ c.args.source.removes c.freed.ensures (record { parts_most = omega arith; chars_most = omega (arith, few) });
+      freed = freed-few _ c.args.source.removes c.freed.ensures (rw c.word-word.ensures (record { parts_most = omega arith; chars_most = omega (arith, few) }));
       new = record { parts_most = omega (arith, few, c.take_chars-t.ensures.most); chars_most = omega (arith, few, c.take_chars-t.ensures.most) };
     }
 
 pub past_parts-requires : goal.past_parts-requires
-past_parts-requires c = droppable c.requires.source c.expr_bytes.ensures c.requires.first_word c.chars_of-w.ensures
+past_parts-requires c = rw c.word-word.ensures (droppable c.requires.source c.expr_bytes.ensures c.requires.first_word c.chars_of-w.ensures)
 
 pub deliver-requires : goal.deliver-requires
 deliver-requires c =
     rw c.front.ensures (
     writable c.requires.source c.expr_bytes.ensures c.requires.first_word c.chars_of-w.ensures (rw c.with.ensures.firsts at c.take_chars-t.ensures) c.args.source.removes c.split-n.ensures
-    (rw c.freed.ensures at (sym c.has_room_after.ensures ∙ c.if-not-has_room_after.false)) c.past_parts.ensures)
+    (rw (c.freed.ensures, c.word-word.ensures) at (sym c.has_room_after.ensures ∙ c.if-not-has_room_after.false)) (rw c.word-word.ensures at c.past_parts.ensures))
 
 pub returns : goal.returns
 returns c =
@@ -57,4 +57,4 @@ returns c =
     let n = c.split-n in
     done x.stands (split_up (until_firsts_in argsᶜ.test argsᶜ.bench.now.given) from.removes from.i)
     (split_done c.requires.source x c.requires.first_word c.chars_of-w.ensures (rw c.with.ensures.firsts at c.take_chars-t.ensures) from.removes n.ensures
-    (one-after argsᶜ.bench.now.state (past (nth (reading from.removes) from.i) 1) (λ z. minus_unless t.result.reached (into (nth (writing false) from.i) (components_in (take n.result n.new.out)) z)) c.past_parts.ensures (rw c.front.ensures at c.deliver.ensures)))
+    (one-after argsᶜ.bench.now.state (past (nth (reading from.removes) from.i) 1) (λ z. minus_unless t.result.reached (into (nth (writing false) from.i) (components_in (take n.result n.new.out)) z)) (rw c.word-word.ensures at c.past_parts.ensures) (rw c.front.ensures at c.deliver.ensures)))

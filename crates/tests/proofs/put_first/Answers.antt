@@ -1,22 +1,19 @@
 -- `tests::put_first` meets its contract.
 use native.Mathlib.Omega.{arith}
-use lib.ListN.{length-take}
+use lib.ListN.{length, length-take}
+use borrow.Author.Tests.{true-eqb, false-eqb}
 use Rattle.tests.proofs.Values.{first-none, front_fits, first-put}
 use Rattle.tests.proofs.put_first.Goals as goal
 
-pub returns-then-x-eq0 : goal.returns-then-x-eq0
-returns-then-x-eq0 c = first-none c.expr_bytes-x.ensures c.if-x-eq0.true
+pub returns-then-is_empty : goal.returns-then-is_empty
+returns-then-is_empty c = first-none c.expr_bytes-x.ensures (true-eqb (length c.expr_bytes-x.result.now) 0 c.if-is_empty.ensures)
 
 pub slice_bounds-put-end-2 : goal.slice_bounds-put-end-2
 slice_bounds-put-end-2 c =
-    let expr-bytesᶜ = c.expr_bytes-x in
-    let if1ᶜ = c.if-x-eq0 in
-    let size-byᶜ = c.size_by-n in
-    simp length-take (omega (arith, front_fits expr-bytesᶜ.ensures.whole if1ᶜ.false size-byᶜ.ensures))
+    let some = false-eqb (length c.expr_bytes-x.result.now) 0 c.if-is_empty.ensures in
+    simp length-take (omega (arith, front_fits c.expr_bytes-x.ensures.whole some c.size_by-n.ensures))
 
 pub returns : goal.returns
 returns c =
-    let expr-bytesᶜ = c.expr_bytes-x in
-    let if1ᶜ = c.if-x-eq0 in
-    let size-byᶜ = c.size_by-n in
-    first-put expr-bytesᶜ.ensures if1ᶜ.false size-byᶜ.ensures c.args.given.now c.put.ensures (omega arith)
+    let some = false-eqb (length c.expr_bytes-x.result.now) 0 c.if-is_empty.ensures in
+    first-put c.expr_bytes-x.ensures some c.size_by-n.ensures c.args.given.now c.put.ensures (omega arith)

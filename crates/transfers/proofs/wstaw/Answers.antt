@@ -39,7 +39,7 @@ put_record-requires c =
     let a = c.args in
     let x = c.expr_bytes-x.ensures in
     recordable x.stands a.source.removes c.requires.first x a.target.reverses c.requires.second c.if-n-eq0.false c.count-t.ensures (ap (λ (r : Amount). r.parts) c.amount_left.ensures) (ap (λ (r : Amount). r.chars) c.amount_left.ensures) c.in_ok-room_for.ensures
-    (search) c.number-last.ensures.is
+    (search) c.last-last.ensures.is
 
 pub shared_ref_as_front-write_records : goal.shared_ref_as_front-write_records
 shared_ref_as_front-write_records c =
@@ -52,11 +52,11 @@ write_records-requires c =
     let a = c.args in
     let x = c.expr_bytes-x.ensures in
     wstaw-writable x.stands a.source.removes c.requires.first x a.target.reverses c.requires.second c.if-n-eq0.false c.count-t.ensures (ap (λ (r : Amount). r.parts) c.amount_left.ensures) (ap (λ (r : Amount). r.chars) c.amount_left.ensures) c.in_ok-room_for.ensures
-    c.number-last.ensures.is a.bench.now.hold c.put_record.ensures c.past_parts.ensures
+    c.last-last.ensures.is a.bench.now.hold c.put_record.ensures c.past_parts.ensures
 
 pub returns : goal.returns
 returns c =
     let a = c.args in
     let x = c.expr_bytes-x.ensures in
     wstaw-done x.stands a.source.removes c.requires.first x a.target.reverses c.requires.second c.if-n-eq0.false c.count-t.ensures (ap (λ (r : Amount). r.parts) c.amount_left.ensures) (ap (λ (r : Amount). r.chars) c.amount_left.ensures) c.in_ok-room_for.ensures
-    c.number-last.ensures.is a.bench.now.hold c.put_record.ensures c.past_parts.ensures c.write_records.ensures
+    c.last-last.ensures.is a.bench.now.hold c.put_record.ensures c.past_parts.ensures c.write_records.ensures

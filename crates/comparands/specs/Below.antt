@@ -1,2 +1,0 @@
--- Modules of the crates below, passed on to those above. Declares nothing.
-pub use Rattle.tests.specs.Prepares
