@@ -150,7 +150,7 @@ static inline uint32_t eol2_count(uint64_t answer)
    40, 0                   as it was
    another refusal, line   its first EOL2_TABLE numbers are zeros
 
-   The refusals are the first seventeen of enum eol2_numbers. Numbers beyond the first EOL2_TABLE stay as they were in every case.
+   The refusals are the first eighteen of enum eol2_numbers. Numbers beyond the first EOL2_TABLE stay as they were in every case.
 
    A text is of one edition. Its first operator chooses: after SEKCJA all operators are the Polish ones, after SECTION the English ones, and a
    word that the other edition alone has is refused with 10. STOP and KONP are words of both. Everything else is the same in both editions, and
