@@ -16,7 +16,7 @@ use Rattle.layout.specs.Below.Lists.{total, all, any, filled, keep, each, bytes_
 use Rattle.layout.specs.Below.ListLaws.{Passed, parts}
 use Rattle.layout.specs.Below.Limits as limit
 use Rattle.layout.specs.Below.Instructions.{operation, is_end}
-use Rattle.layout.specs.Below.Program.{Instr, Switch, Program, no_instr}
+use Rattle.layout.specs.Below.Program.{Instr, Program, no_instr}
 use Rattle.layout.specs.Below.LanguageValues.{in_range}
 use Rattle.layout.specs.Below.WellFormed.{good_text, good_instr, good_label, good_switch, program_tests, good_program}
 use Rattle.layout.specs.Bounds.{Each}
@@ -28,7 +28,6 @@ use Rattle.macros.specs.Below.Items.Sort.{word}
 use Rattle.macros.specs.Below.SyntaxLoad.{Loaded, label_place, instr_of, program_of, unless_refused, load_from, Lined}
 use Rattle.macros.specs.Below.SyntaxLoad.Loaded.{accepted}
 use Rattle.macros.specs.Below.Questions.{questions}
-use Rattle.macros.specs.Below.Statements.{entries_in}
 use Rattle.macros.specs.Below.Tables.{Written, Choice, Tables, Draft, blank, contents, draft_after}
 use Rattle.macros.specs.Below.SyntaxVerdict.{Verdict, first_no}
 use Rattle.macros.specs.Below.SyntaxVerdict.Verdict.{refuse}
@@ -39,6 +38,7 @@ use Rattle.macros.specs.Prepared.Prepared.{unfit, ready}
 use Rattle.acceptance.proofs.RowLaws.{append-none, map-none, cond-none, keep-none, each_none, each_map, each_both, each_all, each-mapped, each-unmapped, each-unkeep, each-each, Answered, answered}
 use Rattle.acceptance.proofs.ReaderLaws.{statements-sound}
 use Rattle.acceptance.proofs.FreshLaws.{different-left}
+use Rattle.acceptance.specs.Switches.{switch_of}
 use Rattle.acceptance.specs.Drafts.{SoundItem, SoundWritten, SoundChoice, SoundDraft, Declared}
 use Rattle.acceptance.proofs.ArgumentLaws.{by_names}
 use Rattle.acceptance.proofs.StatementLaws.{same_bytes-sym}
@@ -163,9 +163,6 @@ module _ (ls : List ℕ) (lined : Lined ls) (n last : ℕ) (d : Draft) (h : Soun
         switches-declared = entries-declared tables a.1.1.0 k.0 k.1;
       }
 
-  abbrev switch_of : Choice → Switch
-  switch_of c = record { goes_by_name = c.goes_by_name; entries = entries_in (label_place tables) c.list }
-
   instructions-good : T (all (good_instr program) (map (instr_of ls tables) tables.code))
   instructions-good =
       let u = different-left bytes_equal same_bytes-sym (by_names tables.switches) (contents d.waiting) h.own_different in
@@ -174,15 +171,15 @@ module _ (ls : List ℕ) (lined : Lined ls) (n last : ℕ) (d : Draft) (h : Soun
       (each_map _ _ (λ w e. instr-good ls tables lined u n w e.0 e.1) tables.code
       (each_both (SoundWritten n tables.texts tables.numbers) (λ w. Each (Declared tables) w.args) tables.code h.tables.code declarations.code-declared)))
 
-  switches-good : T (all (good_switch program) (map switch_of tables.switches))
+  switches-good : T (all (good_switch program) (map (switch_of (label_place tables)) tables.switches))
   switches-good =
-      each_all (good_switch program) (map switch_of tables.switches)
-      (each-mapped (λ w. T (good_switch program w)) switch_of tables.switches
+      each_all (good_switch program) (map (switch_of (label_place tables)) tables.switches)
+      (each-mapped (λ w. T (good_switch program w)) (switch_of (label_place tables)) tables.switches
       (each_map _ _ (λ c e. switch-good ls tables n c e.0 e.1) tables.switches
       (each_both (SoundChoice n tables.texts) (λ c. Each (λ i. T (is_label tables i)) (keep (is word) c.list)) tables.switches h.tables.switches
       declarations.switches-declared)))
 
-  entries-total : (cs : List Choice) → total (λ w. length w.entries) (map switch_of cs) ≡ total (λ c. length (keep (is word) c.list)) cs
+  entries-total : (cs : List Choice) → total (λ w. length w.entries) (map (switch_of (label_place tables)) cs) ≡ total (λ c. length (keep (is word) c.list)) cs
   entries-total [] = refl
   entries-total (c ∷ cs) = omega (arith, entries-count (label_place tables) c.list, entries-total cs)
 
@@ -191,7 +188,7 @@ module _ (ls : List ℕ) (lined : Lined ls) (n last : ℕ) (d : Draft) (h : Soun
   program_good =
       let t = h.tables in
       let code = map (instr_of ls tables) tables.code in
-      let switches = map switch_of tables.switches in
+      let switches = map (switch_of (label_place tables)) tables.switches in
       let counted = length-map tables.code (instr_of ls tables) in
       let lists : Passed (drop 7 (program_tests program)) = (
         instructions-good,
@@ -216,7 +213,7 @@ module _ (ls : List ℕ) (lined : Lined ls) (n last : ℕ) (d : Draft) (h : Soun
           (
             le→leb (length tables.labels) limit.labels t.labels_few,
             (
-              le→leb (length switches) limit.switches (omega (arith, length-map tables.switches switch_of, t.switches_few)),
+              le→leb (length switches) limit.switches (omega (arith, length-map tables.switches (switch_of (label_place tables)), t.switches_few)),
               (
                 le→leb (total (λ w. length w.entries) switches) limit.entries (omega (arith, entries-total tables.switches, t.entries_few)),
                 (

@@ -14,7 +14,7 @@ use Rattle.layout.specs.Below.ListLaws.{T-left, T-right, T-both, all_among, all_
 use Rattle.layout.specs.Below.ListsTableLaws.{beq-eq}
 use Rattle.layout.specs.Below.Characters.{is_capital, is_digit}
 use Rattle.layout.specs.Below.Letters.{Letter, letter_code, indices, use_of}
-use Rattle.layout.specs.Below.Program.{Arg, identifier, classes, Switch, no_switch}
+use Rattle.layout.specs.Below.Program.{Arg, identifier, classes, no_switch}
 use Rattle.layout.specs.Below.LanguageValues.{amount, unsigned, numeral, value_of, in_range}
 use Rattle.layout.specs.Below.WellFormed.{good_text, form, ranged, different}
 use Rattle.macros.specs.Below.ArgumentForms.{is_index, letter_of, word_reads, reads, Argument}
@@ -22,9 +22,9 @@ use Rattle.macros.specs.Below.Items.{Sort, same_sort, Item, is}
 use Rattle.macros.specs.Below.Items.Sort.{separator, word, colon, end, text, wrong}
 use Rattle.macros.proofs.Below.LetterLaws.{letter_of-code, every-letter}
 use Rattle.macros.specs.Below.SyntaxLoad.{arg_of, program_of, switch_place, label_place}
-use Rattle.macros.specs.Below.Statements.{entries_in}
 use Rattle.macros.specs.Below.Tables.{Choice, Tables, number_in}
 use Rattle.acceptance.specs.Drafts.{in_texts, in_numbers, SoundArgument, Declared}
+use Rattle.acceptance.specs.Switches.{switch_of}
 use Rattle.acceptance.proofs.ReadingLaws.{Other, by_form, Lettered, other-reads, text-reads, as-word, numeral-word}
 
 -- a word is no text and no colon
@@ -169,9 +169,6 @@ class-ranged (x ∷ xs) h =
 
 -- Switches: names are different, so the first of a name is of the type that its instruction needs
 
-abbrev choice_switch : (List ℕ → ℕ) → Choice → Switch
-choice_switch place c = record { goes_by_name = c.goes_by_name; entries = entries_in place c.list }
-
 abbrev pub by_names : List Choice → List (List ℕ)
 by_names cs = map (λ c. c.name) cs
 
@@ -187,15 +184,15 @@ named_none w b (c ∷ cs) h k = go (bytes_equal w c.name) h k (named_none w b cs
 
 switch-type : (place : List ℕ → ℕ) (w : List ℕ) (b : Bool) (cs : List Choice) → T (different bytes_equal (by_names cs))
     → T (any (λ c. bytes_equal w c.name && beq b c.goes_by_name) cs)
-    → ((get_or (map (choice_switch place) cs) (ahead (λ c. bytes_equal w c.name) cs) no_switch).goes_by_name ≡ b) × T (any (λ c. bytes_equal w c.name) cs)
+    → ((get_or (map (switch_of place) cs) (ahead (λ c. bytes_equal w c.name) cs) no_switch).goes_by_name ≡ b) × T (any (λ c. bytes_equal w c.name) cs)
 switch-type place w b [] h k = absurd k
 switch-type place w b (c ∷ cs) h k =
     go (bytes_equal w c.name) refl (beq b c.goes_by_name) refl k
     (switch-type place w b cs (T-right (not (any (bytes_equal c.name) (by_names cs))) (different bytes_equal (by_names cs)) h))
   where
     go : (t : Bool) → bytes_equal w c.name ≡ t → (u : Bool) → beq b c.goes_by_name ≡ u → T ((t && u) || any (λ c. bytes_equal w c.name && beq b c.goes_by_name) cs)
-        → (T (any (λ c. bytes_equal w c.name && beq b c.goes_by_name) cs) → ((get_or (map (choice_switch place) cs) (ahead (λ c. bytes_equal w c.name) cs) no_switch).goes_by_name ≡ b) × T (any (λ c. bytes_equal w c.name) cs))
-        → ((get_or (map (choice_switch place) (c ∷ cs)) (elim t [ true ↦ 0 | false ↦ suc (ahead (λ c. bytes_equal w c.name) cs) ]) no_switch).goes_by_name ≡ b) × T (t || any (λ c. bytes_equal w c.name) cs)
+        → (T (any (λ c. bytes_equal w c.name && beq b c.goes_by_name) cs) → ((get_or (map (switch_of place) cs) (ahead (λ c. bytes_equal w c.name) cs) no_switch).goes_by_name ≡ b) × T (any (λ c. bytes_equal w c.name) cs))
+        → ((get_or (map (switch_of place) (c ∷ cs)) (elim t [ true ↦ 0 | false ↦ suc (ahead (λ c. bytes_equal w c.name) cs) ]) no_switch).goes_by_name ≡ b) × T (t || any (λ c. bytes_equal w c.name) cs)
     go true e true f k r = (sym (beq-eq b c.goes_by_name (subst T (sym f) tt)), tt)
     go true e false f k r =
         let q = same_bytes-eq w c.name (subst T (sym e) tt) in
@@ -244,18 +241,18 @@ module _ (ls : List ℕ) (t : Tables) (n : ℕ) (i : Item) where
   made-switch b u d = go b (found b d)
     where
       found : (b : Bool) → Declared t (record { item = i; form = cond b 119 120 })
-          → ((get_or (map (choice_switch (label_place t)) t.switches) (switch_place t i.chars) no_switch).goes_by_name ≡ b) × T (any (λ c. bytes_equal i.chars c.name) t.switches)
+          → ((get_or (map (switch_of (label_place t)) t.switches) (switch_place t i.chars) no_switch).goes_by_name ≡ b) × T (any (λ c. bytes_equal i.chars c.name) t.switches)
       found true d = switch-type (label_place t) i.chars true t.switches u (d.switch_there true tt)
       found false d = switch-type (label_place t) i.chars false t.switches u (d.switch_there false tt)
 
       in_list : T (any (λ c. bytes_equal i.chars c.name) t.switches)
-          → T (ltb (switch_place t i.chars) (length (map (choice_switch (label_place t)) t.switches)))
+          → T (ltb (switch_place t i.chars) (length (map (switch_of (label_place t)) t.switches)))
       in_list k =
-          lt→ltb (switch_place t i.chars) (length (map (choice_switch (label_place t)) t.switches))
-          (omega (arith, length-map t.switches (choice_switch (label_place t)), ahead-below (λ c. bytes_equal i.chars c.name) t.switches k))
+          lt→ltb (switch_place t i.chars) (length (map (switch_of (label_place t)) t.switches))
+          (omega (arith, length-map t.switches (switch_of (label_place t)), ahead-below (λ c. bytes_equal i.chars c.name) t.switches k))
 
       go : (b : Bool)
-          → ((get_or (map (choice_switch (label_place t)) t.switches) (switch_place t i.chars) no_switch).goes_by_name ≡ b) × T (any (λ c. bytes_equal i.chars c.name) t.switches)
+          → ((get_or (map (switch_of (label_place t)) t.switches) (switch_place t i.chars) no_switch).goes_by_name ≡ b) × T (any (λ c. bytes_equal i.chars c.name) t.switches)
           → right (cond b 119 120)
       go true k = (ap (λ (c : Bool). cond c 119 120) k.0, in_list k.1)
       go false k = (ap (λ (c : Bool). cond c 119 120) k.0, in_list k.1)

@@ -26,6 +26,7 @@ use Rattle.macros.specs.Below.Statements.{entry_faults, list_faults, entries_in}
 use Rattle.macros.specs.Below.Tables.{Written, Choice, Tables}
 use Rattle.acceptance.proofs.RowLaws.{append-none, cond-none, each_map, each_both, each-unkeep, each-every, any-mapped, any-more}
 use Rattle.acceptance.specs.Reading.{fits}
+use Rattle.acceptance.specs.Switches.{switch_of}
 use Rattle.acceptance.specs.Drafts.{FineItem, in_texts, SoundArgument, SoundWritten, SoundChoice, SoundLabel, Declared}
 use Rattle.acceptance.proofs.ArgumentLaws.{by_names, argument-right}
 
@@ -220,7 +221,7 @@ module _ (ls : List ℕ) (t : Tables) (goes_by_name : Bool) where
 
 pub switch-good : (ls : List ℕ) (t : Tables) (n : ℕ) (c : Choice) → SoundChoice n t.texts c
     → Each (λ i. T (any (λ l. bytes_equal i.chars l.name) t.labels)) (keep (is word) c.list)
-    → T (good_switch (program_of ls t) (record { goes_by_name = c.goes_by_name; entries = entries_in (label_place t) c.list }))
+    → T (good_switch (program_of ls t) (switch_of (label_place t) c))
 unfolding good_switch
 switch-good ls t n c h d =
     let entered : Each (Entered t) c.list =

@@ -4,4 +4,5 @@
 -- and none of the text's labels is a keyword (NameLaws).
 pub mod Reading
 pub mod Drafts
+pub mod Switches
 pub mod Below

@@ -6,14 +6,14 @@ use std::{array, io};
 
 // Writes a line of those of the bytes that can be seen, with spaces behind them.
 fn write_line(rt: &impl Print, bytes: &[u8]) {
-    let mut line = [b' '; 88];
+    let mut line = [b' '; characters::COUNT + 1];
     let seen = bytes
         .iter()
         .filter(|b| characters::between(b' ', b'~', **b));
-    for (to, b) in line[..87].iter_mut().zip(seen) {
+    for (to, b) in line[..characters::COUNT].iter_mut().zip(seen) {
         *to = *b;
     }
-    line[87] = b'\n';
+    line[characters::COUNT] = b'\n';
     let _ = io::writer(rt).write_all(&line);
 }
 

@@ -52,6 +52,7 @@ pub fn put_four(table: &mut [u32], at: usize, a: usize, b: usize, c: usize, d: u
 }
 
 // Sets the first `n` cells to 0.
+// Its one caller, `writing::clear_table`, was tried with `fill` in its place: what that promises of 8,192 cells was not proved.
 pub fn clear_cells(table: &mut [u32], n: usize)
     requires { n ≤ length table.old }
     ensures { table.new ≡ cleared table.old 0 n }
@@ -67,9 +68,4 @@ pub mod from_cells {
 // Of `language`, passed on to the crates above.
 pub mod from_language {
     pub use cells::from_language::Machine;
-}
-
-// Of `layout`, passed on to the crates above.
-pub mod from_layout {
-    pub use cells::from_layout::TablePlaces;
 }

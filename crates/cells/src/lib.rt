@@ -21,6 +21,7 @@ pub fn clear(dst: &mut [u8], at: usize, n: usize)
 }
 
 // The number in the two cells from `at` on.
+// Two sizes are used, and the numbers of both have a byte order of std; by a const parameter each would be a loop over bytes.
 pub fn two_at(cells: &[u8], at: usize) -> usize
     requires { at + 2 ≤ length cells.now }
     ensures { Number (two_at at cells.now) 65536 result }
@@ -75,5 +76,5 @@ pub mod from_language {
 
 // Of `layout`, passed on to the crates above.
 pub mod from_layout {
-    pub use layout::{StatePlaces, TablePlaces};
+    pub use layout::StatePlaces;
 }

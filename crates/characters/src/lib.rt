@@ -54,16 +54,11 @@ impl Class {
     pub fn place(self) -> u8
         ensures { (result ≡ place_of self) × (result < 4) }
     {
-        match self {
-            Class::Letter => 0,
-            Class::Digit => 1,
-            Class::Space => 2,
-            Class::Rest => 3,
-        }
+        self as u8
     }
 }
 
-// The character of a rank, and 0 for a number that is none.
+// The character of a rank, and 0 for a number that is none: 0 and no Option, since the definition has it, and no other character is 0.
 pub fn byte_of(r: usize) -> u8
     ensures { result ≡ byte_of r }
 {

@@ -70,6 +70,24 @@ impl Amount {
     }
 }
 
+// The cells of a record beside its components: three of its address, the length of its components, and behind them that length again.
+// The constants stand in a type, as those of `layout::StatePlaces`.
+#[derive(Clone, Copy)]
+pub struct RecordPlaces {}
+
+impl RecordPlaces {
+    // Where the length stands, and how many cells it has.
+    pub const LENGTH: usize = 3;
+
+    pub const LENGTH_SIZE: usize = 2;
+
+    // Where the components begin.
+    pub const CONTENTS: usize = 5;
+
+    // How many cells a record takes beside its components.
+    pub const FRAME: usize = 7;
+}
+
 // The code of 0: a number travels as its value with this added, which is the greatest size of one.
 pub const ZERO: usize = Machine::SIZE;
 
@@ -111,7 +129,7 @@ pub fn kind_of(x: &[u8]) -> Kind
     if x[0] != 0 {
         return Kind::Word;
     }
-    if x[1] == 1 {
+    if x[1] == Kind::Number as u8 {
         return Kind::Number;
     }
     Kind::Address
@@ -142,7 +160,8 @@ pub fn chars_of(x: &[u8]) -> &[u8]
     &x[1..1 + usize::from(x[0])]
 }
 
-// Writes a word of these characters from index `at` on.
+// Writes a word of these characters from index `at` on, as `put_short` does of a number or an address.
+// All callers write at the front; the promise is for any place.
 pub fn put_word(out: &mut [u8], at: usize, w: &[u8])
     requires { WordRoom (length out.old) at (length w.now) }
     ensures { out.new ≡ pasted out.old at (component_bytes (word w.now)) }

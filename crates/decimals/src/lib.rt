@@ -10,6 +10,9 @@ ghost use Rattle.decimals.specs.Numerals.{Width, DigitsRoom, DigitsPut};
 
 use language::Machine;
 
+// How many characters the longest has: a minus and seven digits.
+pub const LONGEST: usize = 8;
+
 // How many digits a number of at most seven has.
 fn width(n: usize) -> usize
     requires { n < 10000000 }

@@ -41,6 +41,7 @@ pub fn find_label(table: Table, name: &[u8]) -> Option<usize>
 }
 
 // The reference of a text; the place of one that is not there is their count.
+// No Option here and in `number_ref`: the specification gives the count too, and what a reference is asked of came to the table before.
 pub fn text_ref(table: Table, word: &[u8]) -> TextRef
     requires { Counted table.cells.now 4 128 }
     ensures { Tells table.entry.cells.now (λ p. text_ref p word.now) 384 (ref_number result) }
@@ -52,7 +53,8 @@ pub fn text_ref(table: Table, word: &[u8]) -> TextRef
     }
 }
 
-// The reference of a number: its value + 15 within ±15, otherwise 31 and its place among the numbers, or their count where it is not there.
+// The reference of a number: its value + 15 within ±15, otherwise the count of such
+// numbers and its place in the table of numbers, or how many that has where it is not there.
 // A number and no enum, since it is the cell's own (docs/LAYOUT.md), and the table's reader takes it for the value and never for a place alone.
 pub fn number_ref(table: Table, code: u32) -> usize
     requires { Counted table.cells.now 5 128 }
@@ -61,5 +63,5 @@ pub fn number_ref(table: Table, code: u32) -> usize
     if is_small(code) {
         return code as usize - (Machine::SIZE - Machine::SMALL);
     }
-    31 + find_number(table, code).unwrap_or(table.numbers())
+    TablePlaces::SMALL_NUMBERS + find_number(table, code).unwrap_or(table.numbers())
 }

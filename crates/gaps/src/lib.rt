@@ -1,6 +1,6 @@
 // Ninety-nine strings in a pool with gaps between them: where each lies, how one is laid in, and how room is made.
 // The ends are one array, start and end of each string in turn, so that their order is one law over one list.
-// Pool, ends and scratch stay arguments of their own: the clauses speak of their cells, which a struct of them would hide.
+// Pool, ends and scratch stay arguments of their own: the clauses speak of their cells, and of a struct would name the fields in each place.
 #![tactic(auto)]
 
 ghost use Rattle.std.specs.Prelude.{◌≡◌, ◌+◌, length};

@@ -22,7 +22,7 @@ use Rattle.cells.proofs.Laws.{pasted-pasted, length-pasted, pasted-none, set-two
 use Rattle.cells.specs.Cells.{pasted}
 use Rattle.state_frames.specs.Hexadecimal.{digits, digit, digit_value, is_digit, two_digits, hexadecimal, bytes_in}
 use Rattle.state_frames.specs.Frames.{sum}
-use Rattle.hexadecimal.specs.Digits.{byte_of, told_digit, told_byte, digits_at, Got}
+use Rattle.hexadecimal.specs.Digits.{byte_by, told_digit, told_byte, digits_at, Got}
 
 -- ---- digits, by one computed test each way
 
@@ -104,38 +104,8 @@ module _ (x y : ℕ) where
   pub two-digit : digit_value x < 16 → digit_value y < 16 → is_digit x && is_digit y ≡ true
   two-digit h k = rw (is-digit-by x, is-digit-by y, lt-ltb (digit_value x) 16 h, lt-ltb (digit_value y) 16 k)
 
-  pub byte-no : is_digit x && is_digit y ≡ false → 256 ≡ byte_of x y
-  unfolding byte_of
-  byte-no e = rw e
-
-  pub byte-yes : is_digit x && is_digit y ≡ true → 16 * digit_value x + digit_value y ≡ byte_of x y
-  unfolding byte_of
-  byte-yes e = rw e
-
   digit-below : (z : ℕ) → T (is_digit z) → digit_value z < 16
   digit-below z h = ltb→lt (digit_value z) 16 (subst T (is-digit-by z) h)
-
-  pub byte-below : is_digit x && is_digit y ≡ true → byte_of x y < 256
-  byte-below e =
-      let t : T (is_digit x && is_digit y) = rw e tt in
-      let u = digit-below x (T-left (is_digit x) (is_digit y) t) in
-      let v = digit-below y (T-right (is_digit x) (is_digit y) t) in
-      omega (arith, byte-yes e)
-
-  -- what a byte tells of its digits
-  pub byte-over : 256 ≤ byte_of x y → is_digit x && is_digit y ≡ false
-  byte-over h = go (is_digit x && is_digit y) refl
-    where
-      go : (q : Bool) → is_digit x && is_digit y ≡ q → q ≡ false
-      go true e = absurd (omega (arith, byte-below e))
-      go false e = refl
-
-  pub byte-under : byte_of x y < 256 → is_digit x && is_digit y ≡ true
-  byte-under h = go (is_digit x && is_digit y) refl
-    where
-      go : (q : Bool) → is_digit x && is_digit y ≡ q → q ≡ true
-      go true e = refl
-      go false e = absurd (omega (arith, byte-no e))
 
 -- the three ends of reading a byte, from what is told of its digits
 told-none : (x : ℕ) → told_digit x ≡ None → is_digit x ≡ false
@@ -174,27 +144,24 @@ module _ (x y : ℕ) where
   pub digit-most : (u : ℕ) → told_digit x ≡ Some u → u < 16
   digit-most u e = let t = told-some x u e in rw t.1 (digit-below x y x (rw t.0 tt))
 
-  -- what a byte told says of the number of a byte
-  pub told-byte-none : told_byte x y ≡ None → 256 ≡ byte_of x y
+  pub told-byte : is_digit x && is_digit y ≡ true → told_byte x y ≡ Some (byte_by x y)
   unfolding told_byte
-  told-byte-none e = byte-no x y (go (is_digit x && is_digit y) e)
+  told-byte e = rw e
+
+  -- what is told of a byte says whether both are digits
+  pub told-byte-none : told_byte x y ≡ None → is_digit x && is_digit y ≡ false
+  unfolding told_byte
+  told-byte-none e = go (is_digit x && is_digit y) e
     where
-      go : (q : Bool) → cond q (Some (16 * digit_value x + digit_value y)) None ≡ None → q ≡ false
+      go : (q : Bool) → cond q (Some (byte_by x y)) None ≡ None → q ≡ false
       go true e = cc
       go false e = refl
 
-  pub told-under : byte_of x y < 256 → told_byte x y ≡ Some (byte_of x y)
+  pub told-byte-some : (b : ℕ) → told_byte x y ≡ Some b → (is_digit x && is_digit y ≡ true) × (b ≡ byte_by x y)
   unfolding told_byte
-  told-under h = let t = byte-under x y h in rw (t, byte-yes x y t)
-
-  pub told-byte-some : (b : ℕ) → told_byte x y ≡ Some b → (b ≡ byte_of x y) × (b < 256)
-  unfolding told_byte
-  told-byte-some b e =
-      let t = go (is_digit x && is_digit y) e in
-      let k : b ≡ byte_of x y = t.1 ∙ byte-yes x y t.0 in
-      (k, omega (arith, k, byte-below x y t.0))
+  told-byte-some b e = go (is_digit x && is_digit y) e
     where
-      go : (q : Bool) → cond q (Some (16 * digit_value x + digit_value y)) None ≡ Some b → (q ≡ true) × (b ≡ 16 * digit_value x + digit_value y)
+      go : (q : Bool) → cond q (Some (byte_by x y)) None ≡ Some b → (q ≡ true) × (b ≡ byte_by x y)
       go true e = (refl, cc)
       go false e = cc
 
@@ -317,8 +284,7 @@ pub read_none : (d : List ℕ) (to : ℕ) (text : List ℕ) (at : ℕ) → Read 
 unfolding bytes_in
 read_none d to text at = record { digits_so_far = refl; bytes_so_far = pasted-none d to }
 
-module _ (d : List ℕ) (to : ℕ) (text : List ℕ) (at n j : ℕ) (t : List ℕ) (r : Read d to text at j t) (fits : to + n ≤ length d) (there : at + 2 * n ≤ length text) (k : j < n) (b : ℕ)
-    (e : b ≡ byte_of (get_or text (at + 2 * j) 0) (get_or text (1 + (at + 2 * j)) 0)) where
+module _ (d : List ℕ) (to : ℕ) (text : List ℕ) (at n j : ℕ) (t : List ℕ) (r : Read d to text at j t) (fits : to + n ≤ length d) (there : at + 2 * n ≤ length text) (k : j < n) where
   abbrev u : ℕ
   u = get_or text (at + 2 * j) 0
 
@@ -328,14 +294,13 @@ module _ (d : List ℕ) (to : ℕ) (text : List ℕ) (at n j : ℕ) (t : List �
   more : at + 2 * (j + 1) ≤ length text
   more = omega arith
 
-  pub read-turn : b < 256 → Read d to text at (j + 1) (set t (to + j) b)
-  read-turn h =
+  pub read-turn : (b : ℕ) → told_byte u v ≡ Some b → Read d to text at (j + 1) (set t (to + j) b)
+  read-turn b e =
       let D = digits_at text at j in
-      let both : is_digit u && is_digit v ≡ true = byte-under u v (rw (← e) h) in
+      let told = told-byte-some u v b e in
       let next = digits-next text at j more in
       let long = length_digits text at j more in
-      let yes : is_digit u && (is_digit v && true) ≡ true = ap (λ (z : Bool). is_digit u && z) (and-true (is_digit v)) ∙ both in
-      let value : b ≡ 16 * digit_value u + digit_value v = e ∙ sym (byte-yes u v both) in
+      let yes : is_digit u && (is_digit v && true) ≡ true = ap (λ (z : Bool). is_digit u && z) (and-true (is_digit v)) ∙ told.0 in
       let lb : length (bytes_in D) ≡ j = length-bytes j D long in
       let at_end : to + j ≡ to + length (bytes_in D) = omega (arith, lb) in
       let room : to + j < length t = rw r.bytes_so_far (rw (length-pasted d to (bytes_in D) (omega (arith, lb))) (omega arith)) in
@@ -346,12 +311,12 @@ module _ (d : List ℕ) (to : ℕ) (text : List ℕ) (at n j : ℕ) (t : List �
             ∙ ap (λ (z : List ℕ). pasted z (to + j) (b ∷ [])) r.bytes_so_far
             ∙ ap (λ (m : ℕ). pasted (pasted d to (bytes_in D)) m (b ∷ [])) at_end
             ∙ pasted-pasted d to (bytes_in D) (b ∷ []) (omega (arith, lb))
-            ∙ ap (λ (m : ℕ). pasted d to (bytes_in D ++ (m ∷ []))) value
+            ∙ ap (λ (m : ℕ). pasted d to (bytes_in D ++ (m ∷ []))) told.1
             ∙ ap (pasted d to) (sym (ap bytes_in next ∙ bytes-two j D u v long));
       }
 
-  pub read-stops : 256 ≤ b → false ≡ all is_digit (digits_at text at n)
-  read-stops h = sym (digits-stop text at n j more k (byte-over u v (rw (← e) h)))
+  pub read-stops : told_byte u v ≡ None → false ≡ all is_digit (digits_at text at n)
+  read-stops e = sym (digits-stop text at n j more k (told-byte-none u v e))
 
 -- all bytes are read
 module _ (s : List ℕ) (even : 2 * (length s / 2) ≡ length s) where

@@ -5,16 +5,16 @@ use Rattle.lists.specs.Lists.{all}
 use Rattle.cells.specs.Cells.{pasted}
 use Rattle.state_frames.specs.Hexadecimal.{digit_value, is_digit, bytes_in}
 
--- the byte of two digits, and 256 where one is none
-unfoldable pub byte_of : ℕ → ℕ → ℕ
-byte_of x y = cond (is_digit x && is_digit y) (16 * digit_value x + digit_value y) 256
+-- the byte of two digits
+abbrev pub byte_by : ℕ → ℕ → ℕ
+byte_by x y = 16 * digit_value x + digit_value y
 
 -- the number of a digit, and the byte of two, where they are digits
 unfoldable pub told_digit : ℕ → Option ℕ
 told_digit x = cond (is_digit x) (Some (digit_value x)) None
 
 unfoldable pub told_byte : ℕ → ℕ → Option ℕ
-told_byte x y = cond (is_digit x && is_digit y) (Some (16 * digit_value x + digit_value y)) None
+told_byte x y = cond (is_digit x && is_digit y) (Some (byte_by x y)) None
 
 -- `long` cells are two for each byte, and there is room for the bytes from index at on
 pub record Gettable (room at long : ℕ) : Type 0 where

@@ -1,4 +1,5 @@
 // Hexadecimal in capitals, two digits a byte: bytes written and read, and their sum modulo 256.
+// Not by the crate `hex`, which writes small letters into a row, and reads them too.
 #![tactic(auto)]
 
 ghost use Rattle.std.specs.Prelude.{◌≡◌, ◌+◌, ◌*◌, ◌%◌, ◌≤◌, ◌<◌, length, get_or};
@@ -13,9 +14,9 @@ fn digit_of(n: usize) -> u8
     ensures { result ≡ digit n }
 {
     if n < 10 {
-        return (48 + n) as u8;
+        return b'0' + n as u8;
     }
-    (55 + n) as u8
+    b'A' - 10 + n as u8
 }
 
 // The number of the digit `b`.

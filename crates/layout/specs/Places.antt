@@ -1,5 +1,5 @@
 -- The places of both layouts by their names, each number once (docs/LAYOUT.md has them in words). The same numbers are constants of the types in
--- src/, and `places` there ties the two.
+-- src/, and `places` and `sizes` there tie the two.
 use Rattle.std.specs.Prelude.{List, [], ◌∷◌, ℕ, ◌+◌, ◌*◌}
 
 -- ---- the program table
@@ -63,6 +63,24 @@ first_entry = 6184
 
 abbrev pub first_number : ℕ
 first_number = 6312
+
+-- how many cells an instruction has, a label and a text
+abbrev pub instruction_size : ℕ
+instruction_size = 4
+
+abbrev pub label_size : ℕ
+label_size = 16
+
+abbrev pub text_size : ℕ
+text_size = 16
+
+-- how many numbers are small, -15 to 15: references below it are theirs, and it and those after it refer to the table of numbers
+abbrev pub small_numbers : ℕ
+small_numbers = 31
+
+-- references below it are those of texts of no character and of one, and it and those after it refer to the table of texts
+abbrev pub short_texts : ℕ
+short_texts = 256
 
 -- ---- the state
 
@@ -158,6 +176,10 @@ strings_bytes = 40936
 abbrev pub room : ℕ
 room = 40738
 
+-- cells of a row that any string fits in: at work all strings together have so many bytes at most
+abbrev pub row : ℕ
+row = 32768
+
 -- the strings of file i, before and after its pointer, and of output i; files and outputs are counted from 0 here
 abbrev pub before_string : ℕ → ℕ
 before_string i = first_file + 2 * i
@@ -180,3 +202,7 @@ listed =
     ∷ second_place_cell ∷ next_cell ∷ last_cell ∷ components_cell ∷ characters_cell ∷ records_cell ∷ first_length
     ∷ first_byte ∷ first_file ∷ file_strings_count ∷ stack_string ∷ first_output ∷ second_output ∷ strings_count
     ∷ ends_count ∷ lengths_bytes ∷ strings_bytes ∷ room ∷ []
+
+-- and the sizes and counts
+abbrev pub sizes : List ℕ
+sizes = instruction_size ∷ label_size ∷ text_size ∷ small_numbers ∷ short_texts ∷ row ∷ []

@@ -25,13 +25,13 @@ class_bit cs b n = cond (among b cs) n 0
 abbrev pub class_mask : List ℕ → ℕ
 class_mask cs = class_bit cs 76 1 + class_bit cs 68 2 + class_bit cs 66 4 + class_bit cs 82 8
 
--- a text: 0 for none, its byte for one character, otherwise 256 and its place in the table of texts
+-- a text: 0 for none, its byte for one character, otherwise the count of those and its place in the table of texts
 abbrev pub text_ref : Program → List ℕ → ℕ
-text_ref p t = cond (leb (length t) 1) (cell t 0) (256 + ahead (bytes_equal t) p.texts)
+text_ref p t = cond (leb (length t) 1) (cell t 0) (layout.short_texts + ahead (bytes_equal t) p.texts)
 
--- a number: its value + 15 within ±15, otherwise 31 and its place in the table of numbers
+-- a number: its value + 15 within ±15, otherwise the count of those and its place in the table of numbers
 abbrev pub number_ref : Program → ℤ → ℕ
-number_ref p z = cond (leb (nat_abs z) limit.small) (code z - 8388592) (31 + ahead (same_number z) p.numbers)
+number_ref p z = cond (leb (nat_abs z) limit.small) (code z - 8388592) (layout.small_numbers + ahead (same_number z) p.numbers)
 
 -- an argument: its kind and, eightfold, its value
 abbrev pub arg_cell : Program → Arg → ℕ
@@ -99,10 +99,10 @@ module _ (c : List ℕ) where
   number_in k = uncode (cell c (layout.first_number + k))
 
   abbrev pub text_by : ℕ → List ℕ
-  text_by v = cond (eqb v 0) [] (cond (ltb v 256) (v ∷ []) (text_in (v - 256)))
+  text_by v = cond (eqb v 0) [] (cond (ltb v layout.short_texts) (v ∷ []) (text_in (v - layout.short_texts)))
 
   abbrev pub number_by : ℕ → ℤ
-  number_by v = cond (ltb v 31) (uncode (v + 8388592)) (number_in (v - 31))
+  number_by v = cond (ltb v layout.small_numbers) (uncode (v + 8388592)) (number_in (v - layout.small_numbers))
 
   abbrev pub class_by : ℕ → List ℕ
   class_by v =

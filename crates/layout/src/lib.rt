@@ -1,12 +1,13 @@
 // The places of a program table and of a state at rest as constants of two types, and the kinds of arguments; the layouts themselves are definitions and laws.
 #![tactic(auto)]
 
-ghost use Rattle.std.specs.Prelude.{◌≡◌, ◌+◌, ◌*◌, ◌<◌, ◌++◌};
-ghost use Rattle.layout.specs.ArgumentKinds.{number};
+ghost use Rattle.std.specs.Prelude.{◌≡◌, cond, ◌+◌, ◌*◌, ◌/◌, ◌%◌, ◌<◌, ◌++◌, eqb};
+ghost use Rattle.layout.specs.ArgumentKinds.{number, IsKind};
 ghost use Rattle.layout.specs.Kinds.{kinds};
-ghost use Rattle.layout.specs.Places.{listed};
+ghost use Rattle.layout.specs.Places.{listed, sizes};
 
-// A program table. Its cells are lent memory, so a value of this type holds nothing; its constants are places of cells, as in specs/Places.antt.
+// A program table. Its cells are lent memory, so a value of this type holds nothing; its constants are places and counts of cells, and counts of
+// references, as in specs/Places.antt.
 // The constants stand in a type: a use reads `TablePlaces::FIRST_TEXT`, and who passes the type on passes all; a module would read no plainer.
 #[derive(Clone, Copy)]
 pub struct TablePlaces {}
@@ -49,6 +50,19 @@ impl TablePlaces {
     pub const FIRST_ENTRY: usize = 6184;
 
     pub const FIRST_NUMBER: usize = 6312;
+
+    // How many cells an instruction has, and a label and a text: so far apart two of them stand.
+    pub const INSTRUCTION_SIZE: usize = 4;
+
+    pub const LABEL_SIZE: usize = 16;
+
+    pub const TEXT_SIZE: usize = 16;
+
+    // The references below this are those of the numbers from -15 to 15; number k of the table has this + k.
+    pub const SMALL_NUMBERS: usize = 31;
+
+    // The references below this are those of the texts of no character and of one; text k of the table has this + k.
+    pub const SHORT_TEXTS: usize = 256;
 }
 
 // A state: scalars, strings and cells, in the same way.
@@ -114,6 +128,9 @@ impl StatePlaces {
     pub const STRINGS_BYTES: usize = 40936;
 
     pub const ROOM: usize = 40738;
+
+    // The length of a row that any string fits in: at work all strings together have so many bytes at most.
+    pub const ROW: usize = 32768;
 }
 
 // The kinds of arguments, as in specs/Kinds.antt. An argument's cell is the number of its kind + 8 · its value; that of nothing is 0.
@@ -143,8 +160,6 @@ impl From<ArgumentKind> for usize {
 }
 
 impl TryFrom<usize> for ArgumentKind {
-    ghost use Rattle.layout.specs.ArgumentKinds.{IsKind};
-
     type Error = NoKind;
 
     ghost try_from_gives = { IsKind };
@@ -164,12 +179,133 @@ impl TryFrom<usize> for ArgumentKind {
 }
 
 impl ArgumentKind {
+    // A value stands this many times in a cell; what is left over is the number of the kind.
+    const FOLD: usize = 8;
+
     // The cell of an argument of the kind.
     pub fn cell(self, value: usize) -> usize
         requires { value < 536870912 }
         ensures { (result ≡ number self + 8 * value) × (result < 4294967296) }
     {
-        usize::from(self) + 8 * value
+        usize::from(self) + ArgumentKind::FOLD * value
+    }
+
+    // The kind of the argument in a cell `x`.
+    pub fn in_cell(x: usize) -> Result<ArgumentKind, NoKind>
+        ensures { IsKind (x % 8) result }
+    {
+        ArgumentKind::try_from(x % ArgumentKind::FOLD)
+    }
+
+    // Whether the argument in a cell `x` is of the kind.
+    pub fn is_in(self, x: usize) -> bool
+        ensures { result ≡ eqb (x % 8) (number self) }
+    {
+        x % ArgumentKind::FOLD == usize::from(self)
+    }
+
+    // The value of the argument in a cell `x`.
+    pub fn value_in(x: usize) -> usize
+        ensures { result ≡ x / 8 }
+    {
+        x / ArgumentKind::FOLD
+    }
+}
+
+// Two numbers in one: the first, which is below 64, and the second 64-fold. Such pairs are operator and line of an instruction, length of the name and
+// instruction of a label, and index and letter of an argument.
+#[derive(Clone, Copy, Debug, PartialEq, Eq)]
+pub struct Pair {
+    pub first: usize,
+    pub second: usize,
+}
+
+impl Pair {
+    // The second number stands this many times in the one that has both; what is left over is the first.
+    const FOLD: usize = 64;
+
+    // The pair that `x` has.
+    pub fn of(x: usize) -> Pair
+        ensures { (result.first ≡ x % 64) × (result.second ≡ x / 64) }
+    {
+        Pair {
+            first: x % Pair::FOLD,
+            second: x / Pair::FOLD,
+        }
+    }
+
+    // The number that has the pair.
+    pub fn number(self) -> usize
+        requires { self.first + 64 * self.second < 4294967296 }
+        ensures { result ≡ self.first + 64 * self.second }
+    {
+        self.first + Pair::FOLD * self.second
+    }
+}
+
+// A switch in one number: 1 for NAZWA, twice the count of its entries, which is below 256, and 512-fold the first of them.
+#[derive(Clone, Copy, Debug, PartialEq, Eq)]
+pub struct SwitchCell {
+    pub named: bool,
+    pub count: usize,
+    pub first: usize,
+}
+
+impl SwitchCell {
+    // The count and the first entry stand these many times in the number that has the switch.
+    const COUNT_FOLD: usize = 2;
+
+    const FIRST_FOLD: usize = 512;
+
+    // The switch that `x` has.
+    pub fn of(x: usize) -> SwitchCell
+        ensures { (result.named ≡ eqb (x % 2) 1) × (result.count ≡ x / 2 % 256) × (result.first ≡ x / 512) }
+    {
+        SwitchCell {
+            named: x % SwitchCell::COUNT_FOLD == 1,
+            count: x % SwitchCell::FIRST_FOLD / SwitchCell::COUNT_FOLD,
+            first: x / SwitchCell::FIRST_FOLD,
+        }
+    }
+
+    // The number that has the switch.
+    pub fn number(self) -> usize
+        requires { cond self.named 1 0 + 2 * self.count + 512 * self.first < 4294967296 }
+        ensures { result ≡ cond self.named 1 0 + 2 * self.count + 512 * self.first }
+    {
+        usize::from(self.named)
+            + SwitchCell::COUNT_FOLD * self.count
+            + SwitchCell::FIRST_FOLD * self.first
+    }
+}
+
+// An entry of a switch in one number: its label, which is below 128, and 128-fold the reference to its text.
+#[derive(Clone, Copy, Debug, PartialEq, Eq)]
+pub struct EntryCell {
+    pub label: usize,
+    pub text: usize,
+}
+
+impl EntryCell {
+    // The reference stands this many times in the number that has the entry; what is left over is the label.
+    const FOLD: usize = 128;
+
+    // The entry that `x` has.
+    pub fn of(x: usize) -> EntryCell
+        ensures { (result.label ≡ x % 128) × (result.text ≡ x / 128) }
+    {
+        EntryCell {
+            label: x % EntryCell::FOLD,
+            text: x / EntryCell::FOLD,
+        }
+    }
+
+    // The number that has the entry.
+    pub fn number(self) -> usize
+        requires { self.label + 128 * self.text < 4294967296 }
+        ensures { result ≡ self.label + 128 * self.text }
+    {
+        self.label + EntryCell::FOLD * self.text
     }
 }
 
@@ -232,6 +368,20 @@ pub fn places() -> [usize; 54]
         ArgumentKind::Class as usize,
         ArgumentKind::Text as usize,
         ArgumentKind::Number as usize,
+    ]
+}
+
+// So are the types' sizes and counts.
+pub fn sizes() -> [usize; 6]
+    ensures { result ≡ sizes }
+{
+    [
+        TablePlaces::INSTRUCTION_SIZE,
+        TablePlaces::LABEL_SIZE,
+        TablePlaces::TEXT_SIZE,
+        TablePlaces::SMALL_NUMBERS,
+        TablePlaces::SHORT_TEXTS,
+        StatePlaces::ROW,
     ]
 }
 

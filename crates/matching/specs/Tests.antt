@@ -114,6 +114,7 @@ pub record FirstPut (d : List ℕ) (n : ℕ) (x e : List ℕ) (r : ℕ) : Type 0
   pub count : r ≡ n + length (take 1 (chars (component_in x)))
 
 -- how many characters there are, and whether there are only words
+-- `char_count` is a line here and in `state`: the lowest crate that both name is components, whose definitions `Working` would pass on to all above.
 abbrev pub char_count : List Component → ℕ
 char_count xs = total (λ x. length (chars x)) xs
 

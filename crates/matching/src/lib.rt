@@ -14,6 +14,7 @@ use characters::Class;
 use components::Amount;
 
 // A test of a move. `Class` has the mask of its class: L 1, D 2, B 4, R 8; `Among` has what it compares with.
+// The mask is a number, as the cell has it: `class_by` reads it by bits.
 #[derive(Clone, Copy, Debug, PartialEq, Eq)]
 pub enum Test<'a> {
     All,
@@ -32,6 +33,7 @@ pub struct Taken {
 
 // How many characters a test takes, and whether it was reached.
 // Not one with `Taken`: of characters there are no components, cells or words to tell.
+// No `Option` of how many there are where it was reached: all callers but one want both, and would make them by `unwrap_or` and `is_some`.
 #[derive(Clone, Copy, Debug, PartialEq, Eq)]
 pub struct CharsTaken {
     pub taken: usize,

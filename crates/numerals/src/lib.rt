@@ -15,6 +15,7 @@ pub enum NoNumber {
 }
 
 // The first size out of range, at which sizes stop growing.
+// No Err there: a later byte that is no digit tells another thing, so all are read.
 const BEYOND: usize = Machine::SIZE + 1;
 
 // A size with one more digit.

@@ -1,4 +1,5 @@
 // The working store and the strings at rest: `unpack` lays the strings out with gaps, `pack` writes them back in their one form.
+// Pool and ends stay two arguments, as in `gaps`.
 #![tactic(auto)]
 
 ghost use Rattle.std.specs.Prelude.{◌≡◌, length};

@@ -60,6 +60,7 @@ pub record TookRecords (u : Until Record) (s : List ℕ) (r : Sequence) : Type 0
   pub cut : Cut s r.end.bytes r.end.records
 
 -- how many components and characters records have; each has a cell of its own
+-- A line each, as in `state`: the lowest crate that both name is components, whose definitions `Working` would pass on to all above.
 abbrev pub part_total : List Record → ℕ
 part_total rs = total (λ r. total (λ x. 1) r.parts) rs
 

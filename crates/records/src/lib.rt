@@ -13,8 +13,11 @@ ghost use Rattle.cells.specs.Cells.{pasted, Number};
 ghost use Rattle.records.specs.Places.{Starts, Ends, SplitRecord, Part, LastAddress, next_contents, BothWhole, Sought, Recordable, Copyable};
 ghost use Rattle.records.specs.Sequences.{until_records, stops_void, reached_records, FirstStoppable, RecordStoppable, RecordsCountable, TookRecords, Totalled};
 
-use components::Amount;
+use components::{Amount, RecordPlaces};
 use matching::Test;
+
+// How many cells a record takes beside its components: its address, and how long they are, before them and after them.
+pub const FRAME: usize = RecordPlaces::FRAME;
 
 // How many records stand up to a place, and their cells.
 #[derive(Clone, Copy, Debug, PartialEq, Eq)]
@@ -31,6 +34,7 @@ pub enum RecordTest<'a> {
 }
 
 // Where what a test takes of records ends; whether it was reached.
+// No `Result<Place, Place>` as of `find`: each caller wants the place and, apart from it, whether it was reached.
 #[derive(Clone, Copy, Debug, PartialEq, Eq)]
 pub struct Sequence {
     pub end: Place,
@@ -42,10 +46,11 @@ fn size_of(s: &[u8]) -> usize
     requires { Starts s.now }
     ensures { Ends s.now result }
 {
-    7 + cells::two_at(s, 3)
+    FRAME + cells::two_at(s, RecordPlaces::LENGTH)
 }
 
 // The first record and what is behind it; none where there is none.
+// No iterator: by the length of what is behind, the loops tell where they stand.
 pub fn split_record(s: &[u8]) -> Option<(&[u8], &[u8])>
     requires { WholeRecords s.now }
     ensures { SplitRecord s.now result }
@@ -69,7 +74,7 @@ pub fn contents_of(s: &[u8]) -> &[u8]
     requires { Starts s.now }
     ensures { Part s.now (record_in s.now).parts result.now }
 {
-    &s[5..5 + cells::two_at(s, 3)]
+    &s[RecordPlaces::CONTENTS..RecordPlaces::CONTENTS + cells::two_at(s, RecordPlaces::LENGTH)]
 }
 
 // The components of the first record, none where there is no record.
@@ -108,8 +113,8 @@ pub fn last_address(s: &[u8]) -> Option<usize>
         return None;
     }
     let n = s.len();
-    let k = cells::two_at(s, n - 2);
-    Some(address_of(&s[n - 7 - k..]))
+    let k = cells::two_at(s, n - RecordPlaces::LENGTH_SIZE);
+    Some(address_of(&s[n - FRAME - k..]))
 }
 
 // The place behind the record of an address; where there is none, the place behind all, by which a second string is searched on.
@@ -239,9 +244,9 @@ pub fn put_record(dst: &mut [u8], address: usize, contents: &[u8])
 {
     let n = contents.len();
     cells::put_three(dst, 0, address);
-    cells::put_two(dst, 3, n);
-    cells::put(dst, 5, contents);
-    cells::put_two(dst, 5 + n, n);
+    cells::put_two(dst, RecordPlaces::LENGTH, n);
+    cells::put(dst, RecordPlaces::CONTENTS, contents);
+    cells::put_two(dst, RecordPlaces::CONTENTS + n, n);
 }
 
 // Writes the records of `src` at the front of `dst`, with the addresses after `last`, in their order.

@@ -1,5 +1,5 @@
 // The working store of 99 strings: readers that lend, edits at both ends of a string, and moves between strings. A string costs what is
-// moved of it, whatever the others hold.
+// moved of it, whatever the others hold. Pool and ends stay two arguments, as in `gaps`.
 #![tactic(auto)]
 
 ghost use Rattle.std.specs.Prelude.{◌≡◌, ◌-◌, length, take, drop};

@@ -1,5 +1,5 @@
-// Reading a program table, "a table of 8,192 numbers of 32 bits": with `writing` and `finding` the only code that reads its cells. docs/LAYOUT.md has
-// their places.
+// Reading a program table, "a table of 8,192 numbers of 32 bits": with `writing`, `finding` and `check_parts` the only code that reads its cells.
+// docs/LAYOUT.md has their places.
 #![tactic(auto)]
 
 ghost use Rattle.std.specs.Prelude.{◌≡◌, ◌+◌, ◌*◌, ◌%◌, ◌≤◌, ◌<◌, length, position, take, drop};
@@ -10,13 +10,13 @@ ghost use Rattle.packed.specs.Below.Letters.{indices, use_of};
 ghost use Rattle.packed.specs.Below.LayoutCells.{cell, uncode};
 ghost use Rattle.packed.specs.Below.Table.{number_by, instr_in, label_in, switch_in, entry_in, program_of};
 ghost use Rattle.packed.specs.Packed.{table_of, Copied};
-ghost use Rattle.table.specs.Denote.{letter_of, letter_at, ref_by, ref_number, is_small, text_of};
+ghost use Rattle.table.specs.Denote.{letter_of, letter_at, ref_number, is_small, text_of};
 ghost use Rattle.table.specs.Reads.{Placed, Into, RefersTo, IsArgument, Operated, IsInstruction, switch_first, switch_size, entry_ref, Keyed, Entries, entries_from};
 ghost use Rattle.packed.specs.Below.Limits as limit;
 ghost use Rattle.packed.specs.Below.LayoutPlaces.{instruction_count, label_count, switch_count, entry_count, text_count, number_count, first_instruction};
 
 use language::Operator;
-use layout::{ArgumentKind, TablePlaces};
+use layout::{ArgumentKind, EntryCell, Pair, SwitchCell, TablePlaces};
 use packed::from_cells;
 use packed::from_language::Machine;
 
@@ -120,10 +120,10 @@ impl Letter {
 }
 
 // The letter at a place, and A past the twelve.
-fn letter_by(n: u32) -> Letter
+fn letter_by(n: usize) -> Letter
     ensures { letter_of result ≡ letter_at n }
 {
-    Letter::try_from(n as usize).unwrap_or(Letter::A)
+    Letter::try_from(n).unwrap_or(Letter::A)
 }
 
 // Whether the number whose value + 8,388,607 is `code` is within ±15. Such a one stands in an argument's cell itself, any other in the table of numbers.
@@ -133,17 +133,21 @@ pub fn is_small(code: u32) -> bool
     (Machine::SIZE - Machine::SMALL..=Machine::SIZE + Machine::SMALL).contains(&(code as usize))
 }
 
-// The text that a number in a cell refers to: 0 is none, a byte its character, and 256 and more a place.
-fn text_ref(v: u32) -> TextRef
-    ensures { result ≡ ref_by v }
-{
-    if v == 0 {
-        return TextRef::Empty;
+// The text that a number in a cell refers to: 0 is none, a byte its character, and what is more a place.
+impl From<usize> for TextRef {
+    ghost use Rattle.table.specs.LetterPlaces.{IsReferred};
+
+    ghost from_gives = { IsReferred };
+
+    fn from(v: usize) -> TextRef {
+        if v == 0 {
+            return TextRef::Empty;
+        }
+        if v < TablePlaces::SHORT_TEXTS {
+            return TextRef::Byte(v as u8);
+        }
+        TextRef::Place(v - TablePlaces::SHORT_TEXTS)
     }
-    if v < 256 {
-        return TextRef::Byte(v as u8);
-    }
-    TextRef::Place((v - 256) as usize)
 }
 
 impl TextRef {
@@ -155,7 +159,7 @@ impl TextRef {
         match self {
             TextRef::Empty => 0,
             TextRef::Byte(b) => usize::from(b),
-            TextRef::Place(k) => 256 + k,
+            TextRef::Place(k) => TablePlaces::SHORT_TEXTS + k,
         }
     }
 }
@@ -168,14 +172,6 @@ impl<'a> Table<'a> {
         self.cells[..Machine::TABLE].get(k).copied().unwrap_or(0)
     }
 
-    // Cell `k` of the table.
-    fn cell(self, k: usize) -> u32
-        requires { k < limit.table }
-        ensures { result ≡ cell (table_of self.entry.cells.now) k }
-    {
-        self.cells[k]
-    }
-
     // The 15 cells from cell `at` on, which have the characters of a name or a text.
     fn row(self, at: usize) -> &'a [u32; 15]
         requires { at + 15 ≤ limit.table }
@@ -185,13 +181,14 @@ impl<'a> Table<'a> {
     }
 
     // The value + 8,388,607 of a number that an argument refers to.
-    fn number_by(self, v: u32) -> u32
+    fn number_by(self, v: usize) -> u32
+        requires { v < 536870912 }
         ensures { uncode result ≡ number_by (table_of self.entry.cells.now) v }
     {
-        if v < 31 {
-            return v + (Machine::SIZE - Machine::SMALL) as u32;
+        if v < TablePlaces::SMALL_NUMBERS {
+            return (v + (Machine::SIZE - Machine::SMALL)) as u32;
         }
-        self.cell_at(TablePlaces::FIRST_NUMBER + (v - 31) as usize)
+        self.cell_at(TablePlaces::FIRST_NUMBER + (v - TablePlaces::SMALL_NUMBERS))
     }
 
     // The argument in cell `k`.
@@ -199,14 +196,17 @@ impl<'a> Table<'a> {
         requires { k < limit.table }
         ensures { IsArgument (table_of self.entry.cells.now) k result }
     {
-        let x = self.cell(k);
-        let v = x / 8;
-        match ArgumentKind::try_from((x % 8) as usize) {
-            Ok(ArgumentKind::Letter) => Argument::Indexed(letter_by(v / 64), (v % 64) as usize),
-            Ok(ArgumentKind::Label) => Argument::Label(v as usize),
-            Ok(ArgumentKind::Switch) => Argument::Switch(v as usize),
+        let x = self.read(k);
+        let v = ArgumentKind::value_in(x);
+        match ArgumentKind::in_cell(x) {
+            Ok(ArgumentKind::Letter) => {
+                let pair = Pair::of(v);
+                Argument::Indexed(letter_by(pair.second), pair.first)
+            }
+            Ok(ArgumentKind::Label) => Argument::Label(v),
+            Ok(ArgumentKind::Switch) => Argument::Switch(v),
             Ok(ArgumentKind::Class) => Argument::Class((v % 16) as u8),
-            Ok(ArgumentKind::Text) => Argument::Text(text_ref(v)),
+            Ok(ArgumentKind::Text) => Argument::Text(TextRef::from(v)),
             Ok(ArgumentKind::Number) => Argument::Number(self.number_by(v)),
             Ok(ArgumentKind::Nothing) | Err(_) => Argument::Nothing,
         }
@@ -263,7 +263,9 @@ impl<'a> Table<'a> {
         requires { i < 512 }
         ensures { Number (cell (table_of self.entry.cells.now) (first_instruction + 4 * i) % 64) 64 result }
     {
-        (self.read(TablePlaces::FIRST_INSTRUCTION + 4 * i) % 64) as u8
+        Pair::of(self.read(
+            TablePlaces::FIRST_INSTRUCTION + TablePlaces::INSTRUCTION_SIZE * i,
+        )).first as u8
     }
 
     // The line of instruction `i`.
@@ -271,7 +273,9 @@ impl<'a> Table<'a> {
         requires { i < 512 }
         ensures { Number (instr_in (table_of self.entry.cells.now) i).line 67108864 result }
     {
-        self.read(TablePlaces::FIRST_INSTRUCTION + 4 * i) / 64
+        Pair::of(self.read(
+            TablePlaces::FIRST_INSTRUCTION + TablePlaces::INSTRUCTION_SIZE * i,
+        )).second
     }
 
     // The arguments of instruction `i`.
@@ -280,21 +284,21 @@ impl<'a> Table<'a> {
         requires { i < 512 }
         ensures { IsArgument (table_of self.entry.cells.now) (1 + (first_instruction + 4 * i)) result }
     {
-        self.argument_at(1 + (TablePlaces::FIRST_INSTRUCTION + 4 * i))
+        self.argument_at(TablePlaces::FIRST_ARGUMENT + TablePlaces::INSTRUCTION_SIZE * i)
     }
 
     pub fn second(self, i: usize) -> Argument
         requires { i < 512 }
         ensures { IsArgument (table_of self.entry.cells.now) (2 + (first_instruction + 4 * i)) result }
     {
-        self.argument_at(2 + (TablePlaces::FIRST_INSTRUCTION + 4 * i))
+        self.argument_at(TablePlaces::SECOND_ARGUMENT + TablePlaces::INSTRUCTION_SIZE * i)
     }
 
     pub fn third(self, i: usize) -> Argument
         requires { i < 512 }
         ensures { IsArgument (table_of self.entry.cells.now) (3 + (first_instruction + 4 * i)) result }
     {
-        self.argument_at(3 + (TablePlaces::FIRST_INSTRUCTION + 4 * i))
+        self.argument_at(TablePlaces::THIRD_ARGUMENT + TablePlaces::INSTRUCTION_SIZE * i)
     }
 
     // The cell of argument `j` of instruction `i`.
@@ -302,7 +306,7 @@ impl<'a> Table<'a> {
         requires { (i < 512) × (j < 3) }
         ensures { Number (cell (table_of self.entry.cells.now) (1 + j + (first_instruction + 4 * i))) 4294967296 result }
     {
-        self.read(1 + j + (TablePlaces::FIRST_INSTRUCTION + 4 * i))
+        self.read(TablePlaces::FIRST_ARGUMENT + j + TablePlaces::INSTRUCTION_SIZE * i)
     }
 
     // Instruction `i`, its operator and its arguments.
@@ -323,7 +327,7 @@ impl<'a> Table<'a> {
         requires { k < 128 }
         ensures { Number (label_in (table_of self.entry.cells.now) k).target 67108864 result }
     {
-        self.read(TablePlaces::FIRST_LABEL + 16 * k) / 64
+        Pair::of(self.read(TablePlaces::FIRST_LABEL + TablePlaces::LABEL_SIZE * k)).second
     }
 
     // Whether the name of label `k` is `word`.
@@ -332,8 +336,12 @@ impl<'a> Table<'a> {
         requires { k < 128 }
         ensures { result ≡ bytes_equal (label_in (table_of self.entry.cells.now) k).name word.now }
     {
-        let at = TablePlaces::FIRST_LABEL + 16 * k;
-        packed::spells(self.row(1 + at), self.read(at) % 64, word)
+        let head = Pair::of(self.read(TablePlaces::FIRST_LABEL + TablePlaces::LABEL_SIZE * k));
+        packed::spells(
+            self.row(TablePlaces::FIRST_NAME + TablePlaces::LABEL_SIZE * k),
+            head.first,
+            word,
+        )
     }
 
     // Whether a text is `word`.
@@ -346,8 +354,8 @@ impl<'a> Table<'a> {
             TextRef::Empty => word.is_empty(),
             TextRef::Byte(b) => [b].as_slice() == word,
             TextRef::Place(k) => packed::spells(
-                self.row(TablePlaces::FIRST_TEXT + 1 + 16 * k),
-                self.read(TablePlaces::FIRST_TEXT + 16 * k),
+                self.row(TablePlaces::FIRST_CHARACTERS + TablePlaces::TEXT_SIZE * k),
+                self.read(TablePlaces::FIRST_TEXT + TablePlaces::TEXT_SIZE * k),
                 word,
             ),
         }
@@ -365,8 +373,8 @@ impl<'a> Table<'a> {
                 1
             }
             TextRef::Place(k) => packed::put_chars(
-                self.row(TablePlaces::FIRST_TEXT + 1 + 16 * k),
-                self.read(TablePlaces::FIRST_TEXT + 16 * k),
+                self.row(TablePlaces::FIRST_CHARACTERS + TablePlaces::TEXT_SIZE * k),
+                self.read(TablePlaces::FIRST_TEXT + TablePlaces::TEXT_SIZE * k),
                 out,
             ),
         }
@@ -377,21 +385,21 @@ impl<'a> Table<'a> {
         requires { k < 32 }
         ensures { result ≡ (switch_in (table_of self.entry.cells.now) k).goes_by_name }
     {
-        self.read(TablePlaces::FIRST_SWITCH + k) % 2 == 1
+        SwitchCell::of(self.read(TablePlaces::FIRST_SWITCH + k)).named
     }
 
     pub fn switch_first(self, k: usize) -> usize
         requires { k < 32 }
         ensures { Number (switch_first (table_of self.entry.cells.now) k) 8388608 result }
     {
-        self.read(TablePlaces::FIRST_SWITCH + k) / 512
+        SwitchCell::of(self.read(TablePlaces::FIRST_SWITCH + k)).first
     }
 
     pub fn switch_count(self, k: usize) -> usize
         requires { k < 32 }
         ensures { Number (switch_size (table_of self.entry.cells.now) k) 256 result }
     {
-        self.read(TablePlaces::FIRST_SWITCH + k) / 2 % 256
+        SwitchCell::of(self.read(TablePlaces::FIRST_SWITCH + k)).count
     }
 
     // The label of entry `e`, and its text.
@@ -399,14 +407,14 @@ impl<'a> Table<'a> {
         requires { e < 128 }
         ensures { Number (entry_in (table_of self.entry.cells.now) e).label 128 result }
     {
-        self.read(TablePlaces::FIRST_ENTRY + e) % 128
+        EntryCell::of(self.read(TablePlaces::FIRST_ENTRY + e)).label
     }
 
     fn entry_text(self, e: usize) -> TextRef
         requires { e < 128 }
         ensures { RefersTo (entry_ref (table_of self.entry.cells.now) e) 33554432 result }
     {
-        text_ref(self.cell_at(TablePlaces::FIRST_ENTRY + e) / 128)
+        TextRef::from(EntryCell::of(self.read(TablePlaces::FIRST_ENTRY + e)).text)
     }
 
     // Whether entry `e` is met by `word`: by its label's name, or where it has a text by that.

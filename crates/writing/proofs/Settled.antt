@@ -1,9 +1,9 @@
 -- From single cells that were written to the program that is held: switches, entries, arguments and labels of entries.
 use mathlib.Core.Path.{◌≡◌, refl, sym, ap, ◌∙◌}
-use mathlib.Core.Bool.{Bool, true, false, cond}
-use mir.Val.{bool_byte}
+use mathlib.Core.Bool.{Bool, cond}
 use mathlib.Core.List.{List, [], ◌∷◌}
-use Prim.Native.Nat.{ℕ, suc, ◌+◌, ◌*◌, ◌-◌, ◌/◌, ◌≤◌, ◌<◌}
+use Prim.Native.Nat.{ℕ, zero, suc, ◌+◌, ◌*◌, ◌-◌, ◌/◌, ◌%◌, ◌≤◌, ◌<◌}
+use lib.Dec.{eqb}
 use native.Mathlib.Numerals.{add-one}
 use native.Mathlib.Omega.{arith}
 use lib.ListN.{length, get_or, set, take, drop, length-set}
@@ -37,24 +37,32 @@ module _ (c d : List ℕ) (at v : ℕ) (low : at < 8192) (wrote : d ≡ set c at
 
 -- ---- a switch
 
-as_number : (b : Bool) → bool_byte b ≡ cond {A = ℕ} b 1 0
-as_number true = refl
-as_number false = refl
-
-pub switch-done : (c d e : List ℕ) (n m v : ℕ) (b : Bool) → 8192 ≤ length c → n ≡ cell (table_of c) 2 → n < 32 → m ≡ cell (table_of c) 3 → v ≡ bool_byte b
-    → d ≡ set c (layout.first_switch + n) (v + 512 * m) → e ≡ set d 2 (n + 1) → Changes (with_switch b) c e
-switch-done c d e n m v b long is room has bit f g =
-    let s : List ℕ = (v + 512 * m) ∷ [] in
-    let k = f ∙ set-one c (layout.first_switch + n) (v + 512 * m) (omega arith) in
+pub switch-done : (c d e : List ℕ) (n m v : ℕ) (b : Bool) → 8192 ≤ length c → n ≡ cell (table_of c) 2 → n < 32 → m ≡ cell (table_of c) 3
+    → v ≡ cond {A = ℕ} b 1 0 + 2 * 0 + 512 * m → d ≡ set c (layout.first_switch + n) v → e ≡ set d 2 (n + 1) → Changes (with_switch b) c e
+switch-done c d₁ d₂ n m v b long is room has whole f g =
+    let s : List ℕ = v ∷ [] in
+    let e : v ≡ cond {A = ℕ} b 1 0 + 512 * m = omega (arith, whole) in
+    let k = f ∙ set-one c (layout.first_switch + n) v (omega arith) in
     record {
       holds = λ p h. let x : n ≡ length p.switches = is ∙ switch_count c p h in
           let y : m ≡ length (all_entries p) = has ∙ entry_count c p h in
-          both_hold c d e s (layout.first_switch + n) 2 (n + 1) long (omega arith) (omega arith) k g p (with_switch b p) h
-          (rw (add-one n, x, y, bit ∙ as_number b) (switch-added b p h.tabular (omega (arith, x)))) (switch-tabular b p h.tabular (omega (arith, x)));
-      beyond = both-beyond c d e s (layout.first_switch + n) 2 (n + 1) long (omega arith) (omega arith) k g;
+          both_hold c d₁ d₂ s (layout.first_switch + n) 2 (n + 1) long (omega arith) (omega arith) k g p (with_switch b p) h
+          (rw (add-one n, x, e, y) (switch-added b p h.tabular (omega (arith, x)))) (switch-tabular b p h.tabular (omega (arith, x)));
+      beyond = both-beyond c d₁ d₂ s (layout.first_switch + n) 2 (n + 1) long (omega arith) (omega arith) k g;
     }
 
 -- ---- an entry: its cell, the last switch's cell, and the count
+
+bit-back : (n : ℕ) → n < 2 → cond {A = ℕ} (eqb n 1) 1 0 ≡ n
+bit-back zero h = refl
+bit-back (suc zero) h = refl
+bit-back (suc (suc n)) h = absurd (omega arith)
+
+-- the cell of a switch with one entry more
+pub one-more : (x n f : ℕ) (b : Bool) → b ≡ eqb (x % 2) 1 → n ≡ x / 2 % 256 → f ≡ x / 512 → cond {A = ℕ} b 1 0 + 2 * (n + 1) + 512 * f ≡ x + 2
+one-more x n f b is count first =
+    let low : cond {A = ℕ} b 1 0 ≡ x % 2 = ap (λ (t : Bool). cond {A = ℕ} t 1 0) is ∙ bit-back (x % 2) (omega arith) in
+    omega (arith, low, count, first)
 
 module _ (c d₁ d₂ d₃ : List ℕ) (n s x m v : ℕ) (long : 8192 ≤ length c) (is : n ≡ cell (table_of c) 3) (room : n < 128) (has : s ≡ cell (table_of c) 2) (some : 0 < s)
     (few : s ≤ 32) (low : m < 128) (old : x ≡ get_or c (6151 + s) 0) (f : d₁ ≡ set c (layout.first_entry + n) (m + 128 * v)) (g : d₂ ≡ set d₁ (6151 + s) (x + 2)) (k : d₃ ≡ set d₂ 3 (n + 1)) where

@@ -11,7 +11,7 @@ ghost use Rattle.blocks.specs.Below.LayoutPlaces.{text_count, number_count};
 
 use blocks::from_cells;
 use blocks::from_language::Machine;
-use blocks::from_layout::TablePlaces;
+use layout::{EntryCell, Pair, SwitchCell, TablePlaces};
 use table::{Table, TextRef};
 
 // Sets all cells to 0, which is the empty program.
@@ -29,7 +29,12 @@ pub fn put_text(table: &mut [u32], word: &[u8])
     ensures { Changes (with_text word.now) table.old table.new }
 {
     let n = Table { cells: table }.texts();
-    blocks::put_named(table, TablePlaces::FIRST_TEXT + 16 * n, word.len(), word);
+    blocks::put_named(
+        table,
+        TablePlaces::FIRST_TEXT + TablePlaces::TEXT_SIZE * n,
+        word.len(),
+        word,
+    );
     from_cells::write(table, TablePlaces::TEXT_COUNT, n + 1);
 }
 
@@ -51,8 +56,12 @@ pub fn put_label(table: &mut [u32], name: &[u8], target: usize)
     let n = Table { cells: table }.labels();
     blocks::put_named(
         table,
-        TablePlaces::FIRST_LABEL + 16 * n,
-        name.len() + 64 * target,
+        TablePlaces::FIRST_LABEL + TablePlaces::LABEL_SIZE * n,
+        Pair {
+            first: name.len(),
+            second: target,
+        }
+        .number(),
         name,
     );
     from_cells::write(table, TablePlaces::LABEL_COUNT, n + 1);
@@ -67,8 +76,12 @@ pub fn put_instruction(table: &mut [u32], op: usize, line: usize, arguments: [us
     let n = Table { cells: table }.instructions();
     blocks::put_four(
         table,
-        TablePlaces::FIRST_INSTRUCTION + 4 * n,
-        op + 64 * line,
+        TablePlaces::FIRST_INSTRUCTION + TablePlaces::INSTRUCTION_SIZE * n,
+        Pair {
+            first: op,
+            second: line,
+        }
+        .number(),
         x,
         y,
         z,
@@ -83,11 +96,12 @@ pub fn put_switch(table: &mut [u32], named: bool)
 {
     let n = Table { cells: table }.switches();
     let first = Table { cells: table }.entries();
-    from_cells::write(
-        table,
-        TablePlaces::FIRST_SWITCH + n,
-        usize::from(named) + 512 * first,
-    );
+    let switch = SwitchCell {
+        named,
+        count: 0,
+        first,
+    };
+    from_cells::write(table, TablePlaces::FIRST_SWITCH + n, switch.number());
     from_cells::write(table, TablePlaces::SWITCH_COUNT, n + 1);
 }
 
@@ -98,13 +112,17 @@ pub fn put_entry(table: &mut [u32], label: usize, text: TextRef)
 {
     let n = Table { cells: table }.entries();
     let last = TablePlaces::FIRST_SWITCH - 1 + Table { cells: table }.switches();
-    let switch = from_cells::read(table, last);
-    from_cells::write(
-        table,
-        TablePlaces::FIRST_ENTRY + n,
-        label + 128 * text.number(),
-    );
-    from_cells::write(table, last, switch + 2);
+    let switch = SwitchCell::of(from_cells::read(table, last));
+    let entry = EntryCell {
+        label,
+        text: text.number(),
+    };
+    let longer = SwitchCell {
+        count: switch.count + 1,
+        ..switch
+    };
+    from_cells::write(table, TablePlaces::FIRST_ENTRY + n, entry.number());
+    from_cells::write(table, last, longer.number());
     from_cells::write(table, TablePlaces::ENTRY_COUNT, n + 1);
 }
 
@@ -113,7 +131,11 @@ pub fn set_argument(table: &mut [u32], k: usize, j: usize, cell: usize)
     requires { ArgumentAt table.old k j cell }
     ensures { Writes (IsArg cell) (with_argument k j) table.old table.new }
 {
-    from_cells::write(table, TablePlaces::FIRST_INSTRUCTION + 4 * k + 1 + j, cell);
+    from_cells::write(
+        table,
+        TablePlaces::FIRST_ARGUMENT + TablePlaces::INSTRUCTION_SIZE * k + j,
+        cell,
+    );
 }
 
 // Gives entry `k` of all entries the label `label`.
@@ -121,6 +143,10 @@ pub fn set_entry_label(table: &mut [u32], k: usize, label: usize)
     requires { EntryAt table.old k label }
     ensures { Changes (with_entry_label k label) table.old table.new }
 {
-    let text = from_cells::read(table, TablePlaces::FIRST_ENTRY + k) / 128;
-    from_cells::write(table, TablePlaces::FIRST_ENTRY + k, label + 128 * text);
+    let entry = EntryCell::of(from_cells::read(table, TablePlaces::FIRST_ENTRY + k));
+    from_cells::write(
+        table,
+        TablePlaces::FIRST_ENTRY + k,
+        EntryCell { label, ..entry }.number(),
+    );
 }

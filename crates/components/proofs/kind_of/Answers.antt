@@ -7,8 +7,8 @@ use Rattle.components.proofs.kind_of.Goals as goal
 pub returns-then-x-ne0 : goal.returns-then-x-ne0
 returns-then-x-ne0 c = sym (front-kind c.args.x.now ∙ rw (ne_eqb _ _ c.if-x-ne0.true) refl)
 
-pub returns-then-x-eq1 : goal.returns-then-x-eq1
-returns-then-x-eq1 c = sym (front-kind c.args.x.now ∙ rw (eq-eqb _ _ c.if-x-ne0.false, eq-eqb _ _ c.if-x-eq1.true) refl)
+pub returns-then-x : goal.returns-then-x
+returns-then-x c = sym (front-kind c.args.x.now ∙ rw (eq-eqb _ _ c.if-x-ne0.false, eq-eqb _ _ c.if-x.true) refl)
 
 pub returns : goal.returns
-returns c = sym (front-kind c.args.x.now ∙ rw (eq-eqb _ _ c.if-x-ne0.false, ne_eqb _ _ c.if-x-eq1.false) refl)
+returns c = sym (front-kind c.args.x.now ∙ rw (eq-eqb _ _ c.if-x-ne0.false, ne_eqb _ _ c.if-x.false) refl)

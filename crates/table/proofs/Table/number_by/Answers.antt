@@ -5,11 +5,11 @@ use Rattle.table.proofs.Decode.{small-number, large_number}
 use Rattle.packed.specs.Packed.{table_of}
 use Rattle.table.proofs.Table.number_by.Goals as goal
 
-pub returns-then-v-lt31 : goal.returns-then-v-lt31
-returns-then-v-lt31 c = small-number (table_of c.args.self.cells.now) c.args.v c.if-v-lt31.true
+pub returns-then-v-lt-SMALL_NUMBERS : goal.returns-then-v-lt-SMALL_NUMBERS
+returns-then-v-lt-SMALL_NUMBERS c = small-number (table_of c.args.self.cells.now) c.args.v c.if-v-lt-SMALL_NUMBERS.true
 
 pub returns : goal.returns
 returns c =
     let t = table_of c.args.self.cells.now in
     ap uncode c.cell_at.ensures
-    ∙ large_number t c.args.v c.if-v-lt31.false
+    ∙ large_number t c.args.v c.if-v-lt-SMALL_NUMBERS.false
