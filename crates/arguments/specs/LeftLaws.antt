@@ -4,7 +4,7 @@ use Rattle.std.proofs.Math.Path.{refl, ap}
 use Rattle.std.proofs.Common.{sym, ◌∙◌, arith, leb-true, leb-false}
 use Rattle.std.proofs.Math.Bool.{true, false, cond}
 use mathlib.Core.List.{List, [], ◌∷◌, ◌++◌, append_assoc, append-nil}
-use Prim.Native.Nat.{ℕ, suc, ◌+◌, ◌-◌, ◌≤◌}
+use Prim.Native.Nat.{ℕ, suc, ◌+◌, ◌-◌, ◌≤◌, ◌<◌}
 use Rattle.std.proofs.Math.Dec.{leb}
 use Rattle.std.proofs.Math.ListN.{length}
 use Rattle.std.proofs.Math.Seq.{drop-nil}
@@ -12,7 +12,8 @@ use Rattle.statements.specs.Checks.{worst, token_verdict}
 use Rattle.statements.specs.CheckLaws.{worst-stop, worst-item, worse-clear, worse_assoc}
 use Rattle.statements.specs.FaultLaws.{fault-both}
 use Rattle.lexer.specs.declared.Token.{Token}
-use Rattle.lexer.specs.Tokens.{item_of, NextToken}
+use Rattle.language.specs.Limits as limit
+use Rattle.lexer.specs.Tokens.{item_of, Stands, NextToken}
 use Rattle.statements.specs.Faults.{Fault, Verdict, worse}
 use Rattle.std.specs.Prelude.{Option, None}
 use Rattle.statements.specs.StatementAt.{statement_at, stops, fault_of}
@@ -35,6 +36,9 @@ pub record Passing (s : List ℕ) (n : ℕ) (begun : Verdict) (i : ℕ) (w : Ver
 
 pub passing-first : {s : List ℕ} {n : ℕ} {w : Verdict} → n ≤ length s → Passing s n w n w
 passing-first h = record { within = begins-within h; worst_is = refl }
+
+pub place-low : {s : List ℕ} {t : Token} → Stands s t → length s ≤ limit.text → t.at < 65536
+place-low h l = omega (arith, h.own, h.behind, h.most, l)
 
 module _ {s : List ℕ} {n i : ℕ} {begun w : Verdict} (p : Passing s n begun i w) where
   module _ {t : Token} (k : NextToken s i t) where

@@ -1,7 +1,7 @@
 -- The value of an argument, form by form.
 use Rattle.std.specs.Prelude.{◌≡◌, true, false, ◌&&◌, ℕ, ◌+◌, ◌*◌, ◌^◌, ◌≤◌, ◌<◌, eqb, is_some, length, drop, nat_abs}
 use Rattle.std.proofs.Math.Path.{refl, sym, ap}
-use Rattle.std.proofs.Common.{◌∙◌, true≢false, arith, leb→le}
+use Rattle.std.proofs.Common.{Bool, cond, ◌∙◌, true≢false, arith, leb→le}
 use Rattle.std.proofs.Math.Bool.{and-false}
 use mathlib.Core.List.{List, []}
 use Rattle.std.proofs.Math.Dec.{T}
@@ -62,9 +62,21 @@ module _ (w : List ℕ) where
   unfolding numeral_of
   number-code h = rw (is_true (numeral w && in_range (value_of w)) h)
 
-  class-is : T (is_class w) → class_of w ≡ class_mask (classes w)
+  class-told : {m : ℕ} → Some m ≡ class_of w → (is_class w ≡ true) × (m ≡ class_mask (classes w))
   unfolding class_of
-  class-is h = rw (is_true (is_class w) h)
+  class-told {m} q = go (is_class w) refl q
+    where
+      go : (t : Bool) → is_class w ≡ t → Some m ≡ cond t (Some (class_mask (classes w))) None → (is_class w ≡ true) × (m ≡ class_mask (classes w))
+      go true c e = (c, cc)
+      go false c e = absurd (let y : ◌≡◌ {A = ℕ} 0 1 = cc in omega arith)
+
+  class-none : None ≡ class_of w → is_class w ≡ false
+  unfolding class_of
+  class-none q = go (is_class w) refl q
+    where
+      go : (t : Bool) → is_class w ≡ t → None ≡ cond t (Some (class_mask (classes w))) None → is_class w ≡ false
+      go true c e = absurd (let y : ◌≡◌ {A = ℕ} 0 1 = cc in omega arith)
+      go false c e = c
 
   letter_is : T (is_indexed w by_first) → indexed_of w ≡ lettered_by by_first (amount 0 (drop 1 w))
   unfolding indexed_of
@@ -75,14 +87,19 @@ module _ (w : List ℕ) where
   bits n = record { bits = n }
 
   module _ (e : identifier w ≡ true) where
-    own_name : {x : ReadArgument} → (T (is_class w) → x ≡ Class (class_of w)) → (T (is_indexed w by_first) → LetterValue w x) → OwnValue w x
+    own_name : {x : ReadArgument} → (T (is_class w) → x ≡ Class (class_mask (classes w))) → (T (is_indexed w by_first) → LetterValue w x) → OwnValue w x
     own_name f g =
         record { number = λ h. absurd (rw (name-number w (rw e tt)) at (T-left (numeral w) (in_range (value_of w)) h)); class = f; letter = g }
 
-    pub class-read : is_class w ≡ true → {m : ℕ} → m ≡ class_of w → WordKind w (record { set = bits 237568; own = Class m })
-    class-read c q = record { set_is = class-kind w e c; own_is = own_name (λ h. ap Class q) (λ h. absurd (indexed-class by_first w h (rw c tt))) }
+    pub class-read : {m : ℕ} → Some m ≡ class_of w → WordKind w (record { set = bits 237568; own = Class m })
+    class-read q =
+        let c = class-told q in
+        record { set_is = class-kind w e c.0; own_is = own_name (λ h. ap Class c.1) (λ h. absurd (indexed-class by_first w h (rw c.0 tt))) }
 
-    module _ (c : is_class w ≡ false) where
+    module _ (n : None ≡ class_of w) where
+      c : is_class w ≡ false
+      c = class-none n
+
       pub name-read : None ≡ indexed_of w → WordKind w (record { set = bits 229376; own = Nothing })
       name-read q =
           record {
@@ -216,7 +233,7 @@ module _ {s : List ℕ} {t : Token} (a : InText s t) where
     class-stood r =
         let h : T (is_class v) = word-there 99 refl r in
         rw ((g.word_is (word-here 99 refl r)).class h)
-        (plain 99 refl r (λ q. omega (arith, q)) (Class (class_of v)) refl refl tt (λ l. (refl, class-is v h ∙ ap (λ (u : List ℕ). class_mask (classes u)) (sym (chars-here 99 refl r)))))
+        (plain 99 refl r (λ q. omega (arith, q)) (Class (class_mask (classes v))) refl refl tt (λ l. (refl, ap (λ (u : List ℕ). class_mask (classes u)) (sym (chars-here 99 refl r)))))
 
     -- a mark is the place 64-fold and the length
     mark-is : t.at * 64 + t.len ≡ t.at * 64 + length w

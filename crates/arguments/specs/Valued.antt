@@ -20,7 +20,7 @@ use Rattle.syntax.specs.Items.{Item, is}
 use Rattle.syntax.specs.Items.Sort.{word, text}
 use Rattle.table.specs.declared.Letter.{Letter}
 use Rattle.table.specs.Denote.{letter_of}
-use Rattle.words.specs.Words.{is_class, class_of}
+use Rattle.words.specs.Words.{is_class}
 use Rattle.heads.specs.Below.Writing.{no_program, IsNumber}
 use Rattle.arguments.specs.declared.Kind.{Kind}
 use Rattle.arguments.specs.declared.Quoted.{Quoted}
@@ -123,7 +123,7 @@ pub record LetterValue (w : List ℕ) (r : ReadArgument) : Type 0 where
 -- the own value x of a word: a number, a class or an indexed letter
 pub record OwnValue (w : List ℕ) (x : ReadArgument) : Type 0 where
   pub number : T (numeral w && in_range (value_of w)) → x ≡ Number (code (value_of w))
-  pub class : T (is_class w) → x ≡ Class (class_of w)
+  pub class : T (is_class w) → x ≡ Class (class_mask (classes w))
   pub letter : T (is_indexed w (syntax.letter_of (head_or 0 w))) → LetterValue w x
 
 pub record WordKind (w : List ℕ) (r : Kind) : Type 0 where

@@ -87,10 +87,10 @@ fn name_kind(w: &[u8]) -> Kind
     requires { identifier w.now ≡ true }
     ensures { WordKind w.now result }
 {
-    if words::is_class(w) {
+    if let Some(mask) = words::class_mask(w) {
         return Kind {
             set: Forms::NAMED_CLASS,
-            own: ReadArgument::Class(words::class_mask(w)),
+            own: ReadArgument::Class(mask),
         };
     }
     match words::indexed(w) {
@@ -161,15 +161,20 @@ fn value_by(t: Token, form: Form, own: ReadArgument) -> ReadArgument
 }
 
 // What takes an item as an argument at a place, by the forms that it reads as; or the place at fault: that of the item, or of a colon behind it.
-fn accepted(op: u8, live: Live, place: u8, t: Token, kinds: Forms) -> Result<Taken, usize>
-    ensures { Accepts op live place t kinds.bits result }
+// A match on the colon: by `map_or`, no proof was closed that tells the answer by whether there is one.
+fn accepted(
+    operator: Operator,
+    live: Live,
+    place: u8,
+    t: Token,
+    kinds: Forms,
+) -> Result<Taken, usize>
+    ensures { Accepts (number_of (op_by operator)) live place t kinds.bits result }
 {
     if t.is(Sort::Colon) {
         return Err(t.at);
     }
-    let Some(taken) = take_argument(op, live, place, kinds) else {
-        return Err(t.at);
-    };
+    let taken = take_argument(u8::from(operator), live, place, kinds).ok_or(t.at)?;
     match t.colon {
         Some(colon) => Err(colon),
         None => Ok(taken),
@@ -177,10 +182,10 @@ fn accepted(op: u8, live: Live, place: u8, t: Token, kinds: Forms) -> Result<Tak
 }
 
 // The operator's place, where there are fewer arguments than an instruction needs; otherwise `fault`.
-fn missing_or(op: u8, at: usize, count: usize, fault: Fault) -> Fault
-    ensures { result ≡ missing_or op at count fault }
+fn missing_or(operator: Operator, at: usize, count: usize, fault: Fault) -> Fault
+    ensures { result ≡ missing_or (number_of (op_by operator)) at count fault }
 {
-    if count < usize::from(least(op)) {
+    if count < usize::from(least(u8::from(operator))) {
         Some(at)
     } else {
         fault
@@ -190,52 +195,47 @@ fn missing_or(op: u8, at: usize, count: usize, fault: Fault) -> Fault
 // Place `p` is at fault among the items from `n` on, which `place` arguments stand before; the operator stands at `at`. They are read to the end of the
 // statement: how many arguments they are, those in excess, and questions 14 to 16.
 // Seven parameters: a struct of them would be built for the one call, and read once.
-// Here and in `read_arguments` each turn goes on behind the item that it read, so there is no range to run over; and no iterator over the items, which
-// would end without the token that ends the statement, and `next` is asked of that.
+// No iterator over the items, here and in `read_arguments`: it would end without the token that ends the statement, and `next` is asked of that.
 fn refuse(
     text: &[u8],
     at: usize,
-    op: u8,
+    operator: Operator,
     place: u8,
     n: usize,
     p: usize,
     worst: Verdict,
 ) -> Arguments
-    requires { Refusable text.now op place n }
-    ensures { Refuses text.now at op place n p worst result }
+    requires { Refusable text.now (number_of (op_by operator)) place n }
+    ensures { Refuses text.now at (number_of (op_by operator)) place n p worst result }
 {
     let before = usize::from(place);
-    let skip = usize::from(most(op)) - before;
+    let skip = usize::from(most(u8::from(operator))) - before;
     let mut over = None;
     let mut count: usize = 0;
     let mut low = worst;
-    let mut i = n;
-    loop {
-        let t = next_item(text, i);
-        if stops(t.sort) {
-            return Arguments {
-                over,
-                fault: missing_or(op, at, before + count, Some(p)),
-                values: [no_value(); 3],
-                worst: low,
-                next: following(t),
-            };
-        }
+    let mut t = next_item(text, n);
+    while !stops(t.sort) {
         let argument = !t.is(Sort::Colon);
         over = with_excess(over, argument & (skip <= count), t.at);
         count += usize::from(argument);
         low = worse(low, t);
-        i = t.next;
+        t = next_item(text, t.next);
+    }
+    Arguments {
+        over,
+        fault: missing_or(operator, at, before + count, Some(p)),
+        values: [no_value(); 3],
+        worst: low,
+        next: following(t),
     }
 }
 
 // The arguments of the instruction with the operator `operator`, which is the token `t`, and its questions 01 and 02; `worst` is that of the items up to the
-// operator.
+// operator. Not by `while`, as `refuse` is: the place before an item is kept beside it, since on a fault `refuse` reads that item anew.
 pub fn read_arguments(text: &[u8], t: Token, operator: Operator, worst: Verdict) -> Arguments
     requires { InText text.now t }
     ensures { ReadsArguments text.now t (number_of (op_by operator)) worst result }
 {
-    let op = u8::from(operator);
     let mut live = Live::Both;
     let mut place: u8 = 0;
     let mut values = [no_value(); 3];
@@ -246,16 +246,16 @@ pub fn read_arguments(text: &[u8], t: Token, operator: Operator, worst: Verdict)
         if stops(u.sort) {
             return Arguments {
                 over: None,
-                fault: missing_or(op, t.at, usize::from(place), None),
+                fault: missing_or(operator, t.at, usize::from(place), None),
                 values,
                 worst: low,
                 next: following(u),
             };
         }
         let k = item_kind(text, u);
-        let a = match accepted(op, live, place, u, k.set) {
+        let a = match accepted(operator, live, place, u, k.set) {
             Ok(a) => a,
-            Err(p) => return refuse(text, t.at, op, place, i, p, low),
+            Err(p) => return refuse(text, t.at, operator, place, i, p, low),
         };
         values[usize::from(place)] = Value {
             at: u.at,

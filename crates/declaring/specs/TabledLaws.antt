@@ -166,9 +166,7 @@ module _ (lines : List ℕ) (t : Tables) (op : Op) (i : Instruction) {s : List �
                 each_append (λ w. Each (λ a. Spelt s a.item) w.args) t.code _ v.spelt_arguments
                 (arguments-of (Spelt s) (arguments_in (rest x)) (alternatives op) (each_keep (Spelt s) (λ i. not (is colon i)) (rest x) spelt), tt);
             spelt_entries = v.spelt_entries;
-            switch_room = v.switch_room;
             switch_names = v.switch_names;
             switch_marked = v.switch_marked;
-            entry_room = v.entry_room;
             entry_marks = v.entry_marks;
           }

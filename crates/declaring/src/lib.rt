@@ -16,7 +16,8 @@ use names::lowest_mark;
 use statements::{Fault, lower};
 use table::Table;
 
-// An instruction: its operator, where that stands and in which line, and its arguments.
+// An instruction: its operator, where that stands and in which line, and its arguments. Its labels are no field: they are the statement's, lent from the row
+// of names.
 #[derive(Clone, Copy, Debug, PartialEq, Eq)]
 pub struct Instruction {
     pub operator: Operator,

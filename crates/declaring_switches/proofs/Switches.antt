@@ -11,6 +11,7 @@ use Rattle.acceptance.proofs.RowLaws.{append-none, drop-none}
 use Rattle.declaring.specs.Declaring.{texts_excess}
 use Rattle.declaring.specs.Below.Entering.{set_texts}
 use Rattle.statements.specs.FaultLaws.{no-fault}
+use Rattle.language.specs.Limits as limit
 use Rattle.language.specs.Program.{Program}
 use Rattle.layout.specs.Cells.{cell}
 use Rattle.layout.specs.Table.{all_entries}
@@ -55,15 +56,15 @@ same-list {s} {d} {c} {e} {tx} q l =
       short = l.short;
     }
 
-module _ {s : List ℕ} {d : Declaration} {c sw : List ℕ} {tx : List (Option Quoted)} (pre : WritableSwitch s d c sw tx) where
+module _ {s : List ℕ} {d : Declaration} {c : List ℕ} {tx : List (Option Quoted)} (pre : WritableSwitch s d c tx) where
   abbrev p₀ : Program
   p₀ = pre.held.program
 
   pub room-for-switch : SwitchRoom c
   room-for-switch = switch_room c p₀ pre.held.holds pre.switch_room
 
-  pub switch-index : {k : ℕ} → k ≡ cell (table_of c) 2 → k < length sw
-  switch-index e = omega (arith, e, switch_count c p₀ pre.held.holds, pre.switch_room, pre.switch_marks)
+  pub switch-index : {k : ℕ} → k ≡ cell (table_of c) 2 → k < limit.switches
+  switch-index e = omega (arith, e, switch_count c p₀ pre.held.holds, pre.switch_room)
 
   module _ {e : List ℕ} (h : Changes (with_switch d.named) c e) where
     cell_same : cell (table_of e) 3 ≡ cell (table_of c) 3
@@ -81,16 +82,16 @@ module _ {s : List ℕ} {d : Declaration} {c sw : List ℕ} {tx : List (Option Q
           kept = pre.kept;
         }
 
-    pub switch-written : {e' : List ℕ} → Lists s d e e' → {k : ℕ} → k ≡ cell (table_of c) 2 → WritesSwitch s d c sw e' (set sw k d.name)
+    pub switch-written : {sw e' : List ℕ} → Lists s d e e' → {k : ℕ} → k ≡ cell (table_of c) 2 → WritesSwitch s d c sw e' (set sw k d.name)
     unfolding with_list with_switch
-    switch-written u e =
+    switch-written {sw} u e =
         record {
           holds = λ p g q. u.holds (with_switch d.named p) (h.holds p g) q;
           switch_marks = ap (λ (j : ℕ). set sw j d.name) e;
           beyond_same = u.beyond_same ∙ h.beyond;
         }
 
-module _ {s : List ℕ} {d : Declaration} {c sw : List ℕ} {tx : List (Option Quoted)} (pre : DeclarableSwitch s d c sw tx) where
+module _ {s : List ℕ} {d : Declaration} {c : List ℕ} {tx : List (Option Quoted)} (pre : DeclarableSwitch s d c tx) where
   abbrev p : Program
   p = pre.held.program
 
@@ -98,7 +99,7 @@ module _ {s : List ℕ} {d : Declaration} {c sw : List ℕ} {tx : List (Option Q
   switch-judgeable = record { list = pre.list; held = pre.held }
 
   module _ {r : Fault} {e : List ℕ} (h : JudgesSwitch s d c r e) where
-    pub switch-refused : {b : Bool} → is_some r ≡ not b → b ≡ false → DeclaresSwitch s d c sw r e sw
+    pub switch-refused : {sw : List ℕ} {b : Bool} → is_some r ≡ not b → b ≡ false → DeclaresSwitch s d c sw r e sw
     switch-refused x q =
         record {
           told = λ y g. h.told y g;
@@ -137,7 +138,7 @@ module _ {s : List ℕ} {d : Declaration} {c sw : List ℕ} {tx : List (Option Q
         entry_count e (with_texts s d.begin p) entered ∙ sym (entry_count c p pre.held.holds),
       )
 
-      pub switch-writable : WritableSwitch s d e sw tx
+      pub switch-writable : WritableSwitch s d e tx
       unfolding with_texts set_texts
       switch-writable =
           record {
@@ -146,11 +147,10 @@ module _ {s : List ℕ} {d : Declaration} {c sw : List ℕ} {tx : List (Option Q
             switch_room = rooms.0;
             entry_room = rooms.1;
             kept = pre.kept;
-            switch_marks = pre.switch_marks;
           }
 
-      pub switch-declared : {e' sw' : List ℕ} → WritesSwitch s d e sw e' sw' → DeclaresSwitch s d c sw r e' sw'
-      switch-declared w =
+      pub switch-declared : {sw e' sw' : List ℕ} → WritesSwitch s d e sw e' sw' → DeclaresSwitch s d c sw r e' sw'
+      switch-declared {sw} w =
           record {
             told = λ y g. h.told y g;
             holds = λ f y g k. w.holds (with_texts s d.begin y) (h.holds x y g) k;

@@ -1,6 +1,6 @@
 -- The texts of a list come to the table, entry by entry: question 11 for them, and for the switch.
 use mathlib.Core.Path.{◌≡◌, refl, sym, ap, ◌∙◌, subst}
-use mathlib.Core.Bool.{Bool, true, false, true≢false}
+use mathlib.Core.Bool.{true≢false}
 use mathlib.Core.List.{List, [], ◌∷◌, ◌++◌, append-nil, append_assoc}
 use Prim.Native.Nat.{ℕ, zero, suc, ◌+◌, ◌-◌, ◌≤◌, ◌<◌}
 use native.Mathlib.Decide.{dec_lt}
@@ -62,6 +62,11 @@ none-row s P a e (j ∷ js) h = absurd (none-some _ (sym e ∙ h.1.0))
 abbrev Ref : List ℕ → ℕ → List Item → Type 0
 Ref c r row = Tells c (λ p. text_ref p (row_text row)) 384 r
 
+-- the place of an entry's text is that of its item
+at-item : {s : List ℕ} {q : Quoted} (r : Result (Unit {0}) ℕ) → IfErr r (λ p. p ≡ q.at) → (j : Item) → NamesItem s q j → IfErr r (λ p. p ≡ j.at)
+at-item (Ok u) h j k = tt
+at-item (Err p) h j k = h ∙ k.place
+
 module _ {s : List ℕ} {m : Option Quoted} {c : List ℕ} where
   -- the item of an entry's text
   item-there : RowNamed s m c → {q : Quoted} → m ≡ Some q → (j : Item) × (NamesItem s q j × ShortItem j)
@@ -80,19 +85,13 @@ module _ {s : List ℕ} {m : Option Quoted} {c : List ℕ} where
   pub entry-told : {q : Quoted} → m ≡ Some q → {r : ℕ} → TextTold s q c r → RowTold s m c r
   entry-told e {r} u = record { of = some-row (Ref c r) (λ j js h. u j.chars h.names) e }
 
-  entry-by : RowNamed s m c → {q : Quoted} → m ≡ Some q → (r : Result (Unit {0}) ℕ) → ((j : Item) → NamesItem s q j → IfErr r (λ p. p ≡ j.at)) → {d : List ℕ} → QuotedEntered s q c (is_ok r) d → RowEntered s m c r d
-  entry-by g e r f {d} u =
+  pub entry-entered : RowNamed s m c → {q : Quoted} → m ≡ Some q → {r : Result (Unit {0}) ℕ} {d : List ℕ} → QuotedEntered s q c r d → RowEntered s m c r d
+  entry-entered g {q} e {r} {d} u =
       let i = item-there g e in
       record {
-        of = some-row (λ row. RowEnters row c r d) (λ j js h. (f j h, u j h.sort h.names)) e;
-        beyond_same = (u i.0 i.1.0.sort i.1.0.names).beyond_same;
+        of = some-row (λ row. RowEnters row c r d) (λ j js h. (at-item r u.place j h, u.enters j h.sort h.names)) e;
+        beyond_same = (u.enters i.0 i.1.0.sort i.1.0.names).beyond_same;
       }
-
-  pub entry-entered : RowNamed s m c → {q : Quoted} → m ≡ Some q → {b : Bool} {d : List ℕ} → QuotedEntered s q c b d → b ≡ true → RowEntered s m c (Ok tt) d
-  entry-entered g {q} e {d = d} u t = entry-by g e (Ok tt) (λ j h. tt) (subst (λ y. QuotedEntered s q c y d) t u)
-
-  pub entry-refused : RowNamed s m c → {q : Quoted} → m ≡ Some q → {b : Bool} {d : List ℕ} → QuotedEntered s q c b d → b ≡ false → RowEntered s m c (Err q.at) d
-  entry-refused g {q} e {d = d} u t = entry-by g e (Err q.at) (λ j h. h.place) (subst (λ y. QuotedEntered s q c y d) t u)
 
 -- ---- the texts of some rows at a table
 

@@ -19,13 +19,12 @@ use Rattle.declaring_switches.specs.Entries.{with_entries, list_entries, KeptEnt
 unfoldable pub with_list : List ℕ → ℕ → Bool → Program → Program
 with_list s n goes_by_name p = with_entries (list_entries s n) (with_switch goes_by_name p)
 
-pub record WritableSwitch (s : List ℕ) (d : Declaration) (c sw : List ℕ) (tx : List (Option Quoted)) : Type 0 where
+pub record WritableSwitch (s : List ℕ) (d : Declaration) (c : List ℕ) (tx : List (Option Quoted)) : Type 0 where
   pub list : ListedSwitch s d c tx
   pub held : Held c
   pub switch_room : length held.program.switches < limit.switches
   pub entry_room : length (all_entries held.program) + d.list.words ≤ limit.entries
   pub kept : KeptEntries held.program (list_entries s d.begin)
-  pub switch_marks : length sw ≡ limit.switches
 
 pub record WritesSwitch (s : List ℕ) (d : Declaration) (c sw c' sw' : List ℕ) : Type 0 where
   pub holds : (p : Program) → HoldsProgram c p → KeptEntries p (list_entries s d.begin) → HoldsProgram c' (with_list s d.begin d.named p)
@@ -33,11 +32,10 @@ pub record WritesSwitch (s : List ℕ) (d : Declaration) (c sw c' sw' : List ℕ
   pub beyond_same : drop limit.table c' ≡ drop limit.table c
 
 -- what the questions up to 02 gave
-pub record DeclarableSwitch (s : List ℕ) (d : Declaration) (c sw : List ℕ) (tx : List (Option Quoted)) : Type 0 where
+pub record DeclarableSwitch (s : List ℕ) (d : Declaration) (c : List ℕ) (tx : List (Option Quoted)) : Type 0 where
   pub list : ListedSwitch s d c tx
   pub held : Held c
   pub kept : KeptEntries (with_texts s d.begin held.program) (list_entries s d.begin)
-  pub switch_marks : length sw ≡ limit.switches
 
 -- question 11 is told; where it is answered yes, the switch and the mark of its name are there
 pub record DeclaresSwitch (s : List ℕ) (d : Declaration) (c sw : List ℕ) (r : Fault) (c' sw' : List ℕ) : Type 0 where

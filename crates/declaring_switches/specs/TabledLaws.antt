@@ -3,7 +3,7 @@ use Rattle.std.specs.Prelude.{◌≡◌, refl, Bool, true, false, cond, ◌&&◌
 use Rattle.std.proofs.Math.Path.{ap}
 use Rattle.std.proofs.Common.{◌∙◌, arith, length-append, take-suc-set, get_or-set_same, get_or-set_other, eqb-true}
 use mathlib.Core.List.{List, [], ◌∷◌, ◌++◌, map, map-append}
-use Rattle.std.proofs.Math.ListN.{length, length-map, length-set}
+use Rattle.std.proofs.Math.ListN.{length, length-map}
 use Rattle.std.proofs.lemmas.Bool.{eqb-false}
 use Rattle.acceptance.specs.Drafts.{SoundTables}
 use Rattle.acceptance.proofs.RowLaws.{each_keep}
@@ -13,6 +13,7 @@ use Rattle.drafts.specs.DraftingLaws.{entry-words}
 use Rattle.drafts.specs.Marks.{mark, word_by, Marked}
 use Rattle.drafts.specs.Tabled.{Spelt, entry_items, Tabled}
 use Rattle.declaring.specs.Below.Entering.{set_texts}
+use Rattle.language.specs.Limits as limit
 use Rattle.language.specs.Program.{Program}
 use Rattle.layout.specs.Bounds.{Each, KeptText}
 use Rattle.layout.proofs.CellLaws.{each_append}
@@ -62,7 +63,7 @@ module _ (lines : List ℕ) (t : Tables) (b : Bool) (ls : List Item) {s : List �
 
     -- and the tables with the switch
     module _ {en : List ℕ} (v : Tabled s lines t c sw en) (en' : List ℕ) (marks : take (cell (table_of c) 3 + length (keep (is word) (statement_at s o.next))) en' ≡ take (cell (table_of c) 3) en ++ map mark (keep (is word) (statement_at s o.next))) (sound : SoundTables (length s) (with_switch t ls x b)) (spelt : Each (Spelt s) (rest x))
-        (name-is : word_by s name ≡ head_or [] (contents ls)) (name-there : Marked s name) (size : length en' ≡ length en)
+        (name-is : word_by s name ≡ head_or [] (contents ls)) (name-there : Marked s name) (switch_room : length sw ≡ limit.switches)
         (kept : KeptEntries (with_texts s o.next p) (list_entries s o.next)) (e : r ≡ None) where
       abbrev k : ℕ
       k = length t.switches
@@ -86,7 +87,7 @@ module _ (lines : List ℕ) (t : Tables) (b : Bool) (ls : List Item) {s : List �
 
       room : k < length sw
       unfolding with_switch
-      room = omega (arith, v.switch_room, sound.switches_few, one_more)
+      room = omega (arith, switch_room, sound.switches_few, one_more)
 
       names_are : map (word_by s) (take (length (t.switches ++ (choice ∷ []))) sw') ≡ map (λ w. w.name) (t.switches ++ (choice ∷ []))
       names_are = rw (one_more, set_is, take-suc-set sw k name room, map-append (word_by s) (take k sw), v.switch_names, name-is, map-append (λ y. y.name) t.switches)
@@ -109,10 +110,8 @@ module _ (lines : List ℕ) (t : Tables) (b : Bool) (ls : List Item) {s : List �
             holds = rw program-is at (u.holds e p v.holds kept);
             spelt_arguments = v.spelt_arguments;
             spelt_entries = rw items_are (each_append (Spelt s) (entry_items t) (keep (is word) (rest x)) v.spelt_entries (each_keep (Spelt s) (is word) (rest x) spelt));
-            switch_room = ap length set_is ∙ length-set sw k name ∙ v.switch_room;
             switch_names = names_are;
             switch_marked = marked-are;
-            entry_room = size ∙ v.entry_room;
             entry_marks = rw items_are marks-are;
           }
 

@@ -14,7 +14,7 @@ use switch_lists::Listed;
 use table::{Table, TextRef};
 
 // A switch as its statement gives it: the place of its operator, the place where its list begins, whether it is NAZWA, the mark of its name, and what its
-// list has.
+// list has. Only contracts read `begin`; it is no ghost field, since such a field holds a proposition, and no number.
 // A flag, as `goes_by_name : Bool` is in the specification of a switch: no third type of switch is possible, and the table has the flag in a cell.
 #[derive(Clone, Copy, Debug, PartialEq, Eq)]
 pub struct Declaration {
@@ -37,13 +37,10 @@ fn enter_entry(text: &[u8], entry: Option<Quoted>, table: &mut [u32]) -> Result<
     requires { RowNamed text.now entry table.old }
     ensures { RowEntered text.now entry table.old result table.new }
 {
-    let Some(q) = entry else {
-        return Ok(());
-    };
-    if from_entering::enter_text_of(text, q, table) {
-        return Ok(());
+    match entry {
+        Some(q) => from_entering::enter_text_of(text, q, table),
+        None => Ok(()),
     }
-    Err(q.at)
 }
 
 // Question 11; the texts of the list come to the table, entry by entry, up to the first that has no room.
@@ -76,10 +73,10 @@ fn write_switch(
     text: &[u8],
     d: Declaration,
     table: &mut [u32],
-    switches: &mut [u32],
+    switches: &mut [u32; Machine::SWITCHES],
     texts: &[Option<Quoted>],
 )
-    requires { WritableSwitch text.now d table.old switches.old texts.now }
+    requires { WritableSwitch text.now d table.old texts.now }
     ensures { WritesSwitch text.now d table.old switches.old table.new switches.new }
 {
     let n = Table { cells: table }.switches();
@@ -96,10 +93,10 @@ pub fn declare_switch(
     text: &[u8],
     d: Declaration,
     table: &mut [u32],
-    switches: &mut [u32],
+    switches: &mut [u32; Machine::SWITCHES],
     texts: &[Option<Quoted>],
 ) -> Fault
-    requires { DeclarableSwitch text.now d table.old switches.old texts.now }
+    requires { DeclarableSwitch text.now d table.old texts.now }
     ensures { DeclaresSwitch text.now d table.old switches.old result table.new switches.new }
 {
     let fault = judge_switch(text, d, table, texts);

@@ -1,7 +1,6 @@
 -- The tables of a text that is being read, as the loader keeps them: the program table holds the draft of the program; beside it stand the marks of
 -- the switches' names and of the entries' labels.
 use Rattle.std.specs.Prelude.{◌≡◌, List, map, ℕ, ◌<◌, T, length, get_or, take}
-use Rattle.acceptance.specs.Below.Limits as limit
 use Rattle.acceptance.specs.Below.LayoutBounds.{Each}
 use Rattle.lists.specs.Lists.{each, keep}
 use Rattle.acceptance.specs.Drafts.{SoundTables}
@@ -27,8 +26,6 @@ pub record Tabled (s lines : List ℕ) (t : Tables) (c sw en : List ℕ) : Type 
   pub holds : HoldsProgram c (draft_program lines t)
   pub spelt_arguments : Each (λ w. Each (λ a. Spelt s a.item) w.args) t.code
   pub spelt_entries : Each (Spelt s) (entry_items t)
-  pub switch_room : length sw ≡ limit.switches
   pub switch_names : map (word_by s) (take (length t.switches) sw) ≡ map (λ c. c.name) t.switches
   pub switch_marked : (k : ℕ) → k < length t.switches → Marked s (get_or sw k 0)
-  pub entry_room : length en ≡ limit.entries
   pub entry_marks : take (length (entry_items t)) en ≡ map mark (entry_items t)

@@ -16,6 +16,7 @@ use Rattle.editions.proofs.ReadingLaws.{operators-same}
 use Rattle.editions.specs.Rewriting.{operators_in}
 use Rattle.editions.proofs.SpliceLaws.{skip_all}
 
+-- the items from place n on: a line here and in `macro_marks`, since the lowest crate that both name is syntax, which would pass it on to all above
 abbrev items : List ℕ → ℕ → List Item
 items s n = named (read outside n (drop n s))
 

@@ -1,5 +1,5 @@
 -- Texts and numbers of a statement that come to the tables: "different texts longer than one character", "different numbers beyond 15 in size".
-use Rattle.std.specs.Prelude.{◌≡◌, Bool, true, false, cond, not, ◌&&◌, List, [], ◌∷◌, ◌++◌, map, ℕ, ◌≤◌, leb, ltb, length, drop, ℤ, nat_abs}
+use Rattle.std.specs.Prelude.{◌≡◌, Result, IfErr, is_ok, Bool, true, false, cond, not, ◌&&◌, List, [], ◌∷◌, ◌++◌, map, ℕ, ◌≤◌, leb, ltb, length, drop, ℤ, nat_abs}
 use Rattle.arguments.specs.Valued.{NamesText, ItemValued, Valued}
 use Rattle.arguments.specs.declared.Value.{Value}
 use Rattle.language.specs.Limits as limit
@@ -123,10 +123,12 @@ pub record SomeValues (v : List Value) (c : List ℕ) : Type 0 where
   pub text : List ℕ
   pub enterable : EnterableValues text v c
 
--- whatever item is the text q, or has the value x, and whatever items have the values v
-abbrev pub QuotedEntered : List ℕ → Quoted → List ℕ → Bool → List ℕ → Type 0
-QuotedEntered s q c r d =
-    (i : Item) → is text i ≡ true → NamesText s q i.chars → EntersOne bytes_equal (λ j. j.chars) long_text (λ p. p.texts) set_texts i c r d
+-- whatever item is the text q; where it is told to have no place in the table, its place in the text is told
+pub record QuotedEntered (s : List ℕ) (q : Quoted) (c : List ℕ) (r : Result (Unit {0}) ℕ) (d : List ℕ) : Type 0 where
+  pub place : IfErr r (λ p. p ≡ q.at)
+  pub enters : (i : Item) → is text i ≡ true → NamesText s q i.chars → EntersOne bytes_equal (λ j. j.chars) long_text (λ p. p.texts) set_texts i c (is_ok r) d
+
+-- whatever item has the value x, and whatever items have the values v
 
 abbrev pub TextEntered : List ℕ → ReadArgument → List ℕ → Bool → List ℕ → Type 0
 TextEntered s x c r d = (i : Item) → ItemValued s i x → EntersOne bytes_equal (λ j. j.chars) long_text (λ p. p.texts) set_texts i c r d

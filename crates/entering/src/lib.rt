@@ -43,27 +43,30 @@ fn add_number(table: &mut [u32], code: u32) -> bool
     true
 }
 
-// Adds a text, unless it has one character or none; whether it is there then.
-// A bool here and in `enter_number_of`: no value comes with it, and the loops that ask name the place at fault.
-pub fn enter_text_of(text: &[u8], q: Quoted, table: &mut [u32]) -> bool
+// Adds a text, unless it has one character or none; `Err` is its place, where there is no room for it.
+pub fn enter_text_of(text: &[u8], q: Quoted, table: &mut [u32]) -> Result<(), usize>
     requires { EnterableText text.now q table.old }
     ensures { QuotedEntered text.now q table.old result table.new }
 {
-    let mut word = [0u8; 60];
+    let mut word = [0u8; Machine::ITEM];
     let n = spelling::put_text(text, q.at + 1, q.end, &mut word);
     if n < 2 {
-        return true;
+        return Ok(());
     }
-    add_text(table, &word[..n])
+    if add_text(table, &word[..n]) {
+        return Ok(());
+    }
+    Err(q.at)
 }
 
 // Adds the text of a value, if it is one; whether it is there then.
+// A bool here and in `enter_number_of`: the loops that ask have the place at fault with the value, and a number comes without one.
 fn enter_text_in(text: &[u8], x: ReadArgument, table: &mut [u32]) -> bool
     requires { EnterableValue text.now x table.old }
     ensures { TextEntered text.now x table.old result table.new }
 {
     match x {
-        ReadArgument::Text(q) => enter_text_of(text, q, table),
+        ReadArgument::Text(q) => enter_text_of(text, q, table).is_ok(),
         _ => true,
     }
 }

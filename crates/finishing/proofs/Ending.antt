@@ -4,11 +4,11 @@ use mathlib.Core.Bool.{Bool, true, false, not}
 use mathlib.Core.List.{List, ◌∷◌, map}
 use Prim.Native.Nat.{ℕ, ◌-◌, ◌≤◌}
 use native.Mathlib.Omega.{arith}
-use lib.ListN.{length, take, length-take, length-map}
+use lib.ListN.{length, length-map}
 use Rattle.std.specs.Option.{is_none}
 use Rattle.progress.specs.Closing.{Ends}
 use Rattle.progress.specs.declared.Closing.{Closing}
-use Rattle.drafts.specs.Marks.{marks_in, place_by, word_by}
+use Rattle.drafts.specs.Marks.{marks_in, place_by}
 use Rattle.progress.specs.Below.DeclaringTabledLaws.{mark-places}
 use Rattle.acceptance.proofs.RowLaws.{each_map}
 use Rattle.drafts.specs.Drafting.{draft_program, draft_instr}
@@ -17,13 +17,16 @@ use Rattle.statements.specs.FaultLaws.{question-decides}
 use Rattle.statements.specs.Faults.{Verdict, verdict_of}
 use Rattle.layout.specs.Cells.{cell}
 use Rattle.linking.specs.Linking.{Kept, Links, last_two}
+use Rattle.linking.proofs.Answers.{refused-at}
+use Rattle.statements.specs.declared.Refusal.{Refusal}
 use Rattle.std.specs.Prelude.{Ok, Err}
 use Rattle.packed.specs.Packed.{table_of}
 use Rattle.progress.specs.Progress.{Drafted}
+use Rattle.progress.specs.ProgressLaws.{labels-most}
 use Rattle.progress.specs.declared.Progress.{Progress}
 use Rattle.statements.specs.StatementAt.{fault_of}
 use Rattle.statements.specs.Faults.{Fault}
-use Rattle.std.specs.Prelude.{None, Some}
+use Rattle.std.specs.Prelude.{None}
 use Rattle.syntax.specs.Ending.{last_place, absent, end_faults, last_questions}
 use Rattle.syntax.specs.Items.{places}
 use Rattle.syntax.specs.Tables.{Draft, is_first}
@@ -42,10 +45,7 @@ not_yes (Err f) w e = let z : ◌≡◌ {A = ℕ} 0 1 = cc in omega arith
 module _ {s lines : List ℕ} {d : Draft} {g : Progress} {ms c sw en : List ℕ} (h : Drafted s lines d g ms c sw en) where
   -- the marks of all labels have a place
   pub names-most : g.names ≤ length ms
-  names-most =
-      let n = h.tells.names in
-      let e : length (take g.names ms) ≡ g.names = sym (length-map (take g.names ms) (word_by s)) ∙ ap length n.names_are ∙ n.count_is in
-      omega (arith, length-take g.names ms, e)
+  names-most = labels-most h.tells.names
 
   pub kept : Kept s c sw en
   kept = record { lines = lines; tables = d.tables; tabled = h.tabled }
@@ -94,11 +94,11 @@ module _ {s : List ℕ} {g : Progress} {ms c sw en : List ℕ} {last : ℕ} (l :
     then-asked d h =
         asked d h false n ∙ ap (λ (x : Fault). then (decided 25 x) (first_no (last_two d.tables))) (sym (fault-here d h))
 
-    pub not-ended : (at : ℕ) → f ≡ Some at → (v : Verdict) → verdict_of v ≡ refuse 25 at → Finishes s g ms c sw en v c
-    not-ended at e v w =
+    pub not-ended : (r : Refusal) → verdict_of (Err r) ≡ decided 25 f → Finishes s g ms c sw en (Err r) c
+    not-ended r w = let x = refused-at 25 r f w in
         record {
-          verdict_is = λ lines d h. w ∙ sym (then-asked d h ∙ ap (λ (x : Fault). then (decided 25 x) (first_no (last_two d.tables))) e);
-          holds = λ q. absurd (not_yes v w q);
+          verdict_is = λ lines d h. x.0 ∙ sym (then-asked d h ∙ ap (λ (x : Fault). then (decided 25 x) (first_no (last_two d.tables))) x.1);
+          holds = λ q. absurd (not_yes (Err r) x.0 q);
           beyond = refl;
         }
 

@@ -5,9 +5,10 @@ ghost use Rattle.std.specs.Prelude.{◌≡◌};
 ghost use Rattle.syntax.specs.Ending.{last_place};
 ghost use Rattle.finishing.specs.Finishing.{Finishable, Finishes};
 
+use language::Machine;
 use names::lowest_mark;
 use progress::Progress;
-use statements::{Question, Verdict, refused};
+use statements::{Question, Verdict, decide, refused};
 use table::Table;
 
 // The place of the last byte, 0 in an empty text.
@@ -21,10 +22,10 @@ fn last_place(text: &[u8]) -> usize
 pub fn finish(
     text: &[u8],
     p: Progress,
-    names: &[u32],
+    names: &[u32; Machine::TEXT],
     table: &mut [u32],
-    switches: &[u32],
-    entries: &[u32],
+    switches: &[u32; Machine::SWITCHES],
+    entries: &[u32; Machine::ENTRIES],
 ) -> Verdict
     requires { Finishable text.now p names.now table.old switches.now entries.now }
     ensures { Finishes text.now p names.now table.old switches.now entries.now result table.new }
@@ -36,10 +37,9 @@ pub fn finish(
     let waiting = lowest_mark(&names[p.first_waiting()..p.names]);
     let code = Table { cells: table }.instructions();
     let ended = p.ended;
-    match progress::end_fault(last, p.closing, code, ended, waiting) {
-        Some(at) => refused(Question::End, at),
-        None => linking::resolve(text, table, switches, entries),
-    }
+    let fault = progress::end_fault(last, p.closing, code, ended, waiting);
+    decide(Question::End, fault)?;
+    linking::resolve(text, table, switches, entries)
 }
 
 // Of `progress`, passed on to the crates above.

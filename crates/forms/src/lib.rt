@@ -349,7 +349,7 @@ fn second_list(op: Operator) -> Places
     }
 }
 
-// Its lists by their numbers; no instruction has more than two.
+// Its lists by their numbers; no instruction has more than two. The promise holds for any number, so an enum would ask more.
 #[tactic(auto, using(crate::proofs::Tables::past_list))]
 fn list_of(op: Operator, list: u8) -> Places
     ensures { SetsOf (op_by op) list result }
@@ -361,7 +361,7 @@ fn list_of(op: Operator, list: u8) -> Places
     }
 }
 
-// Those of an operator by its number; of a number that is no operator's, empty sets.
+// Those of an operator by its number; of a number that is no operator's, empty sets. With `map_or` in place of the match its promise was not proved.
 #[tactic(auto, using(crate::proofs::Tables::listed_sets, crate::proofs::Tables::no_sets))]
 fn sets_by(op: u8, list: u8) -> Places
     ensures { Sets op list result }

@@ -139,9 +139,12 @@ module _ {s : List ℕ} {t : Token} {w : Verdict} {r : Rest} (k : Rests s t w r)
       go None m e = fault-one at
       go (Some f) m e = rw (m, e) (by_name f (statement_at s f.next) (right_first s q (Some f)))
 
+  pub follows_by : (f : Option Token) → r.first ≡ f → follows s t ≡ from_first s f
+  follows_by f e = sym k.items ∙ ap (from_first s) e
+
   -- no item is right
   items-told : (f : Option Token) → r.first ≡ f → fault_of (places (from_first s f)) ≡ fault_of (places (follows s t))
-  items-told f e = ap (λ (g : Option Token). fault_of (places (from_first s g))) (sym e) ∙ ap (λ (xs : List Item). fault_of (places xs)) k.items
+  items-told f e = sym (ap (λ (xs : List Item). fault_of (places xs)) (follows_by f e))
 
   some_told : {f : Token} → r.first ≡ Some f → {e : Fault} → e ≡ lower (Some f.at) r.more → e ≡ fault_of (places (follows s t))
   some_told {f} q l =
@@ -149,6 +152,9 @@ module _ {s : List ℕ} {t : Token} {w : Verdict} {r : Rest} (k : Rests s t w r)
       ∙ ap (lower (Some f.at)) (k.more_is ∙ ap (λ (g : Option Token). fault_of (places (drop 1 (from_first s g)))) q)
       ∙ sym (first_place f.at (places (statement_at s f.next)))
       ∙ items-told (Some f) q
+
+  none_told : r.first ≡ None → None ≡ fault_of (places (follows s t))
+  none_told z = sym (ap (λ (xs : List Item). fault_of (places xs)) (follows_by None z))
 
 -- ---- the first statement
 
@@ -244,7 +250,7 @@ module _ {s : List ℕ} {n : ℕ} {h : Head} (g : Headed s n h) where
       after-kons z q = some_told k z q ∙ by-kons section a b
 
       pub after_none : r.first ≡ None → AfterTold s n section None
-      after_none z = items-told k None z ∙ by-kons section a b
+      after_none z = none_told k z ∙ by-kons section a b
 
   -- ---- the first statement
 

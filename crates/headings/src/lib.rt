@@ -39,28 +39,24 @@ pub fn is_konp(k: Option<Keyword>) -> bool
 }
 
 // The items of a statement from its item `first` on.
-// Each turn goes on behind the item that it read, so there is no range to run over; and no iterator over the items, which would end without the token
-// that ends the statement, and `next` is asked of that.
+// No iterator over the items, which would end without the token that ends the statement, and `next` is asked of that.
 fn read_tail(text: &[u8], first: Token, worst: Verdict) -> Rest
     requires { InText text.now first }
     ensures { Tails text.now first worst result }
 {
     let mut more = None;
     let mut w = worst;
-    let mut i = first.next;
-    loop {
-        let t = next_item(text, i);
-        if stops(t.sort) {
-            return Rest {
-                first: Some(first),
-                more,
-                worst: w,
-                next: following(t),
-            };
-        }
+    let mut t = next_item(text, first.next);
+    while !stops(t.sort) {
         more = lower(more, Some(t.at));
         w = worse(w, t);
-        i = t.next;
+        t = next_item(text, t.next);
+    }
+    Rest {
+        first: Some(first),
+        more,
+        worst: w,
+        next: following(t),
     }
 }
 
@@ -107,20 +103,14 @@ fn is_name_first(text: &[u8], first: Option<Token>) -> bool
     requires { FirstIn text.now first }
     ensures { result ≡ right_first text.now identifier first }
 {
-    match first {
-        Some(t) => is_name(text, t),
-        None => false,
-    }
+    first.is_some_and(|t| is_name(text, t))
 }
 
 // The name that has a mark; nothing without one.
 fn name_of(text: &[u8], mark: Option<u32>) -> &[u8]
     ensures { result.now ≡ name_by text.now mark }
 {
-    match mark {
-        Some(m) => word_of(text, m as usize),
-        None => &text[..0],
-    }
+    mark.map_or(&text[..0], |m| word_of(text, m as usize))
 }
 
 // Whether the first item is the name that has a mark.

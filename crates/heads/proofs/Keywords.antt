@@ -33,12 +33,13 @@ switch_rest (Some Keyword.Konp) h = refl
 switch_rest (Some (Keyword.Switch b)) h = absurd (h b refl)
 switch_rest (Some (Keyword.Instr o)) h = refl
 
-pub by_name_rest : (k : Option Keyword) → ((b : Bool) → k ≡ Some (Keyword.Switch b) → ⊥) → false ≡ is_by_name k
+pub by_name_rest : (k : Option Keyword) → (k ≡ Some (Keyword.Switch true) → ⊥) → false ≡ is_by_name k
 by_name_rest None h = refl
 by_name_rest (Some Keyword.Sekcja) h = refl
 by_name_rest (Some Keyword.Kons) h = refl
 by_name_rest (Some Keyword.Konp) h = refl
-by_name_rest (Some (Keyword.Switch b)) h = absurd (h b refl)
+by_name_rest (Some (Keyword.Switch true)) h = absurd (h refl)
+by_name_rest (Some (Keyword.Switch false)) h = refl
 by_name_rest (Some (Keyword.Instr o)) h = refl
 
 pub instr_rest : (k : Option Keyword) → ((o : Operator) → k ≡ Some (Keyword.Instr o) → ⊥) → None ≡ instr_by k

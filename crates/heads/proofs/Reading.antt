@@ -7,7 +7,7 @@ use native.Mathlib.Nat.{add-zero}
 use native.Mathlib.Numerals.{add-one}
 use native.Mathlib.Omega.{arith}
 use lib.Dec.{eqb}
-use lib.ListN.{length, take, drop, set, length-set}
+use lib.ListN.{length, take, drop, set}
 use lib.Seq.{take-suc-set, take-set-le}
 use borrow.Author.Tests.{eq-eqb, ne_eqb, eqb-true, eqb-false}
 use Rattle.drafts.specs.Marks.{mark, mark_of}
@@ -29,6 +29,7 @@ use Rattle.scanner.specs.Below.Statements.{keyword_of, front, labels_in, is_name
 use Rattle.scanner.specs.declared.Sort.{Sort}
 use Rattle.scanner.specs.Sorts.{sort_in}
 use Rattle.words.specs.declared.Known.{Known}
+use Rattle.language.specs.Limits as limit
 use Rattle.heads.specs.Heads.{known_item, head_with, operates, MarksPut, Headable, Heads}
 use Rattle.heads.specs.HeadLaws.{front_goes, front_ends, operator_is}
 use Rattle.heads.proofs.Leading.{Leading, leading-first, no_front, own_fault, no-head, head-here, still-leading}
@@ -39,10 +40,10 @@ record Putting (s : List ℕ) (n i count : ℕ) (ms ms' : List ℕ) (c : ℕ) : 
   marks : take count ms ++ map mark (labels_in (statement_at s n)) ≡ take c ms' ++ map mark (labels_in (statement_at s i))
 
 module _ {s : List ℕ} {n i count : ℕ} {ms ms' : List ℕ} {c : ℕ} {t : Token} (p : Putting s n i count ms ms' c) (k : NextToken s i t) where
-  all-put : length ms' ≡ length ms → front (statement_at s i) ≡ [] → MarksPut s n count ms ms' c
-  all-put h e =
+  all-put : front (statement_at s i) ≡ [] → MarksPut s n count ms ms' c
+  all-put e =
       let q : labels_in (statement_at s i) ≡ [] = ap (keep (is word)) e in
-      record { room = h; count_is = sym (p.counts ∙ ap (λ y. c + length y) q ∙ add-zero c); marks = sym (p.marks ∙ rw q (append-nil (take c ms'))) }
+      record { count_is = sym (p.counts ∙ ap (λ y. c + length y) q ∙ add-zero c); marks = sym (p.marks ∙ rw q (append-nil (take c ms'))) }
 
   module _ (z : stops t.sort ≡ false) where
     abbrev it : Item
@@ -51,8 +52,8 @@ module _ {s : List ℕ} {n i count : ℕ} {ms ms' : List ℕ} {c : ℕ} {t : Tok
     abbrev js : List Item
     js = statement_at s t.next
 
-    operator-put : length ms' ≡ length ms → operates t ≡ true → MarksPut s n count ms ms' c
-    operator-put h o = all-put h (ap front (at_item k z) ∙ front_ends it js (operator_is s t ∙ o))
+    operator-put : operates t ≡ true → MarksPut s n count ms ms' c
+    operator-put o = all-put (ap front (at_item k z) ∙ front_ends it js (operator_is s t ∙ o))
 
     module _ (o : operates t ≡ false) {m : ℕ} (m-is : m ≡ mark_of t.at t.len) (room : c < length ms') where
       labels-are : labels_in (statement_at s i) ≡ cond (same_sort word (sort_in t.sort)) (it ∷ labels_in js) (labels_in js)
@@ -86,19 +87,15 @@ module _ {s : List ℕ} {n i count : ℕ} {ms ms' : List ℕ} {c : ℕ} {t : Tok
 pub record Reading (r : List ℕ) (n : ℕ) (ms : List ℕ) (count j f : ℕ) (fault : Fault) (w : Verdict) (ms' : List ℕ) (c : ℕ) : Type 0 where
   pub most : j ≤ length r
   pub few : c ≤ n + j
-  pub room : length ms' ≡ 32768
   pub low : n + length r ≤ 32768
-  pub same : length ms' ≡ length ms
   is : (s : List ℕ) → n ≤ length s → drop n s ≡ r → Leading s n (n + j) f fault w × Putting s n (n + j) count ms ms' c
 
-pub reading-first : {r : List ℕ} {n : ℕ} {ms : List ℕ} {count : ℕ} → Headable r n ms count → Reading r n ms count 0 n None (Ok tt) ms count
-reading-first {r} {n} {ms} {count} p =
+pub reading-first : {r : List ℕ} {n : ℕ} {ms : List ℕ} {count : ℕ} → Headable r n count → Reading r n ms count 0 n None (Ok tt) ms count
+reading-first {n = n} p =
     record {
       most = omega arith;
       few = omega (arith, p.few);
-      room = p.room;
       low = p.low;
-      same = refl;
       is = λ s le h. rw (add-zero n) (leading-first le, record { counts = refl; marks = refl });
     }
 
@@ -110,7 +107,7 @@ pub record Going (r : List ℕ) (n : ℕ) (ms : List ℕ) (count : ℕ) (t : Tok
   pub token : NextToken r place t
   pub first_is : first ≡ cond (eqb place 0) (n + t.at) before
 
-pub going-first : {r : List ℕ} {n : ℕ} {ms : List ℕ} {count : ℕ} → Headable r n ms count → {t : Token} → NextToken r 0 t → {first : ℕ} → first ≡ n + t.at
+pub going-first : {r : List ℕ} {n : ℕ} {ms : List ℕ} {count : ℕ} → Headable r n count → {t : Token} → NextToken r 0 t → {first : ℕ} → first ≡ n + t.at
     → Going r n ms count t first None (Ok tt) ms count
 going-first {n = n} p k e = record { place = 0; before = n; reading = reading-first p; token = k; first_is = e }
 
@@ -170,8 +167,8 @@ module _ {r : List ℕ} {n : ℕ} {ms : List ℕ} {count j f : ℕ} {fault : Fau
     pub at-less : stops o.sort ≡ false → t.at < t.next
     at-less z = let m = k.stands.some (goes t.sort (sym (ap (λ (x : Token). stops x.sort) g) ∙ z)).0 in omega (arith, m, k.stands.behind)
 
-    pub room-left : stops o.sort ≡ false → c < length ms'
-    room-left z = omega (arith, u.room, u.few, k.stands, goes_on z, u.low)
+    pub room-left : stops o.sort ≡ false → c < limit.text
+    room-left z = omega (arith, u.few, k.stands, goes_on z, u.low)
 
     module _ (s : List ℕ) (le : n ≤ length s) (h : drop n s ≡ r) where
       there : NextToken s (n + j) o
@@ -184,7 +181,7 @@ module _ {r : List ℕ} {n : ℕ} {ms : List ℕ} {count j f : ℕ} {fault : Fau
       none_read : stops o.sort ≡ true → Heads r n count ms ms' (head_with f' fault c w o None)
       none_read z s le h =
           let k' = there s le h in
-          (no-head (u.is s le h).0 k' (same_place n j) f_is z, all-put (u.is s le h).1 k' u.same (no_front (at-stop k' z)))
+          (no-head (u.is s le h).0 k' (same_place n j) f_is z, all-put (u.is s le h).1 k' (no_front (at-stop k' z)))
 
       module _ {w' : Verdict} (w-is : w' ≡ worse w (token_verdict o)) where
         -- what ends a statement has no fault, and is no keyword
@@ -199,22 +196,20 @@ module _ {r : List ℕ} {n : ℕ} {ms : List ℕ} {count j f : ℕ} {fault : Fau
         head_read y e s le h =
             let k' = there s le h in
             let v-is = e ∙ sym (ap known_item (item-is s le h) ∙ known-shift n (item_of r t)) in
-            (head-here (u.is s le h).0 k' (same_place n j) f_is z w-is y v-is, operator-put (u.is s le h).1 k' z u.same y)
+            (head-here (u.is s le h).0 k' (same_place n j) f_is z w-is y v-is, operator-put (u.is s le h).1 k' z y)
 
-        pub still-reading : operates o ≡ false → {fault' : Fault} {m c' : ℕ} → fault' ≡ lower fault (fault_of (cond (is_name (item_of r t)) [] (o.at ∷ [])))
+        pub still-reading : length ms' ≡ limit.text → operates o ≡ false → {fault' : Fault} {m c' : ℕ} → fault' ≡ lower fault (fault_of (cond (is_name (item_of r t)) [] (o.at ∷ [])))
             → m ≡ mark_of o.at o.len → c' ≡ c + cond (same_sort word (sort_in o.sort)) 1 0 → Reading r n ms count t.next f' fault' w' (set ms' c m) c'
-        still-reading y {fault'} {m} {c'} e m-is c_is =
+        still-reading size y {fault'} {m} {c'} e m-is c_is =
             record {
               most = k.stands.most;
               few = few-by (same_sort word (sort_in o.sort)) c_is;
-              room = length-set ms' c m ∙ u.room;
               low = u.low;
-              same = length-set ms' c m ∙ u.same;
               is = λ s le h.
                   let k' = there s le h in
                   let d : o.next ≡ n + t.next = ap (λ (x : Token). x.next) g in
                   let q : fault' ≡ lower fault (own_fault (item_of s o)) = e ∙ ap (λ (b : Bool). lower fault (fault_of (cond b [] (o.at ∷ [])))) (sym (ap is_name (item-is s le h))) in
-                  rw (sym d) (still-leading (u.is s le h).0 k' (same_place n j) f_is z w-is y q, still-putting (u.is s le h).1 k' z y m-is (room-left z) c_is);
+                  rw (sym d) (still-leading (u.is s le h).0 k' (same_place n j) f_is z w-is y q, still-putting (u.is s le h).1 k' z y m-is (omega (arith, room-left z, size)) c_is);
             }
           where
             few-by : (b : Bool) → c' ≡ c + cond b 1 0 → c' ≤ n + t.next

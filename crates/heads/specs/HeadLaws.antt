@@ -1,13 +1,14 @@
 -- The head of a statement item by item.
-use Rattle.std.specs.Prelude.{◌≡◌, Bool, false, cond, not, ◌&&◌, ◌||◌, List, [], ◌∷◌, ℕ, ◌+◌, ◌≤◌, eqb, length, take, drop}
+use Rattle.std.specs.Prelude.{◌≡◌, Bool, false, cond, not, ◌&&◌, ◌||◌, List, [], ◌∷◌, ℕ, ◌+◌, ◌≤◌, ◌<◌, eqb, length, take, drop}
 use Rattle.std.proofs.Math.Path.{refl, ap}
-use Rattle.std.proofs.Common.{sym, ◌∙◌, arith}
+use Rattle.std.proofs.Common.{sym, ◌∙◌, arith, true≢false}
 use Rattle.std.proofs.Math.Bool.{true}
 use Rattle.lists.specs.Lists.{filled, if_any}
 use Rattle.lexer.specs.declared.Token.{Token}
-use Rattle.lexer.specs.Tokens.{word_of, chars_of, item_of}
+use Rattle.lexer.specs.Tokens.{word_of, chars_of, item_of, Stands}
 use Rattle.lexer.proofs.Finding.{word-chars, one_sort}
 use Rattle.statements.specs.Faults.{lower}
+use Rattle.statements.specs.LowerLaws as lowered
 use Rattle.statements.specs.StatementAt.{statement_at, stops, fault_of, Ended}
 use Rattle.std.specs.Bool.{then_some}
 use Rattle.std.specs.Option.{is_some, is_none, option_to_list}
@@ -32,14 +33,10 @@ use Rattle.language.specs.declared.Operator.{Operator}
 
 -- the lower of places at fault
 pub lower-clear : (a : Fault) → lower a None ≡ a
-lower-clear None = refl
-lower-clear (Some p) = refl
+lower-clear = lowered.lower-right
 
 pub lower-assoc : (a b c : Fault) → lower (lower a b) c ≡ lower a (lower b c)
-lower-assoc None b c = refl
-lower-assoc (Some p) None c = refl
-lower-assoc (Some p) (Some q) None = refl
-lower-assoc (Some p) (Some q) (Some r) = ap Some (omega arith)
+lower-assoc = lowered.lower-assoc
 
 -- a place at fault where a test says so
 pub place-if : (b : Bool) (at : ℕ) → then_some b at ≡ fault_of (cond b (at ∷ []) [])
@@ -56,6 +53,13 @@ place-unless false at = refl
 some-not_none : (k : Option Sort) → is_some k ≡ not (is_none k)
 some-not_none None = refl
 some-not_none (Some k) = refl
+
+present : (k : Option Sort) → stops k ≡ false → is_some k ≡ true
+present None z = absurd (true≢false z)
+present (Some k) z = refl
+
+pub token-ahead : {s : List ℕ} {t : Token} → Stands s t → stops t.sort ≡ false → t.at < t.next
+token-ahead {t = t} w z = omega (arith, w.some (present t.sort z), w.behind)
 
 pub ended-by : {s : List ℕ} {n : ℕ} (t : Token) → Ended s n t.next (is_none t.sort) → {r : Option ℕ} → r ≡ following t → EndedBy s n r
 ended-by t e q = record { next = t.next; last = is_none t.sort; is = q ∙ ap (λ b. then_some b t.next) (some-not_none t.sort); ended = e }
@@ -133,10 +137,19 @@ module _ (s : List ℕ) (t : Token) where
     pub word-passes : (f : List ℕ → Bool) → (is word (item_of s t) && f (chars_of s t)) ≡ f (word_of s t)
     word-passes f = ap (λ b. b && f (chars_of s t)) w ∙ ap f chars-word
 
+    pub word-keyword : keyword_of (item_of s t) ≡ keyword_by (word_of s t)
+    word-keyword = keyword-item (item_of s t) ∙ ap (λ b. cond b (keyword_by (chars_of s t)) Spec.Keyword.unknown) w ∙ ap keyword_by chars-word
+
     pub word-known : known (word_of s t) ≡ known_item (item_of s t)
     word-known = sym (rw (w, chars-word) refl)
 
   module _ (w : is word (item_of s t) ≡ false) where
+    pub other-fails : (f : List ℕ → Bool) → (is word (item_of s t) && f (chars_of s t)) ≡ false
+    other-fails f = ap (λ b. b && f (chars_of s t)) w
+
+    pub other-keyword : keyword_of (item_of s t) ≡ Spec.Keyword.unknown
+    other-keyword = keyword-item (item_of s t) ∙ ap (λ b. cond b (keyword_by (chars_of s t)) Spec.Keyword.unknown) w
+
     pub other-known : None ≡ known_item (item_of s t)
     other-known = sym (rw w refl)
 

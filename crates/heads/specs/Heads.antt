@@ -109,14 +109,12 @@ pub record Headed (s : List ℕ) (n : ℕ) (h : Head) : Type 0 where
 
 -- the marks of the statement's labels stand behind the first `count` of the marks ms; then there are k
 pub record MarksPut (s : List ℕ) (n count : ℕ) (ms ms' : List ℕ) (k : ℕ) : Type 0 where
-  pub room : length ms' ≡ length ms
   pub count_is : k ≡ count + length (labels_in (statement_at s n))
   pub marks : take k ms' ≡ take count ms ++ map mark (labels_in (statement_at s n))
 
 -- Each label takes a byte at least, so the names of all labels before place n have a place among 32,768
-pub record Headable (r : List ℕ) (n : ℕ) (ms : List ℕ) (count : ℕ) : Type 0 where
+pub record Headable (r : List ℕ) (n count : ℕ) : Type 0 where
   pub low : n + length r ≤ limit.text
-  pub room : length ms ≡ 32768
   pub few : count ≤ n
 
 -- of whatever text s whose rest from place n on is r

@@ -9,7 +9,7 @@ ghost use Rattle.words.specs.Keywords.{keyword_known, is_english, is_own};
 ghost use Rattle.heads.specs.Heads.{following, known_item, operates, opens, bars, is_switch, is_by_name, instr_by, Headable, Heads};
 
 use drafts::mark;
-use language::Operator;
+use language::{Machine, Operator};
 use lexer::{Token, moved, next_item};
 use scanner::Sort;
 use statements::{Fault, Verdict, lower, stops, worse};
@@ -96,10 +96,7 @@ pub fn is_switch(k: Option<Keyword>) -> bool
 pub fn is_by_name(k: Option<Keyword>) -> bool
     ensures { result ≡ is_by_name k }
 {
-    match k {
-        Some(Keyword::Switch(by_name)) => by_name,
-        _ => false,
-    }
+    matches!(k, Some(Keyword::Switch(true)))
 }
 
 // An instruction's operator.
@@ -132,9 +129,9 @@ pub fn following(t: Token) -> Option<usize>
 // names.
 // The whole row and a count: the questions on labels that come next read the marks before these too, by their indices in the row.
 // Each turn goes on behind the item that it read, so there is no range to run over; and no iterator over the items, since the head holds the operator or
-// the token that ends the statement, at which such a walk would end without it.
-pub fn read_head(rest: &[u8], n: usize, names: &mut [u32], count: usize) -> Head
-    requires { Headable rest.now n names.old count }
+// the token that ends the statement, at which such a walk would end without it. No `while` either: of that token the questions are asked too.
+pub fn read_head(rest: &[u8], n: usize, names: &mut [u32; Machine::TEXT], count: usize) -> Head
+    requires { Headable rest.now n count }
     ensures { Heads rest.now n count names.old names.new result }
 {
     let mut t = next_item(rest, 0);

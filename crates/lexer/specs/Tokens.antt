@@ -99,6 +99,7 @@ pub record ColonAfter (s : List ℕ) (n : ℕ) (r : After) : Type 0 where
   pub is : read outside n (drop n s) ≡ items_after s r.next r.colon
 
 -- the items from place n on, each word with its colon
+-- A line here and in `editions`: the lowest crate that both name is syntax, whose definitions this file would pass on to all above.
 abbrev pub items_from : List ℕ → ℕ → List Item
 items_from s n = named (read outside n (drop n s))
 

@@ -110,11 +110,7 @@ fn colon_after(text: &[u8], n: usize) -> After
             colon: Some(at),
             next: at + 1,
         },
-        Ok(at) => After {
-            colon: None,
-            next: at,
-        },
-        Err(Unclosed(at)) => After {
+        Ok(at) | Err(Unclosed(at)) => After {
             colon: None,
             next: at,
         },

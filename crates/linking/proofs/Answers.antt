@@ -35,7 +35,7 @@ at_fault n p [] qs e = absurd (let z : ◌≡◌ {A = ℕ} 0 1 = cc in omega ari
 at_fault n p (q ∷ ps) qs e = ap (refuse n) (ap place_of e) ∙ sym (decides n q ps qs)
 
 -- where a question is decided: no at a place at fault, or yes
-refused-at : (n : ℕ) (r : Refusal) (f : Fault) → verdict_of (Err r) ≡ decided n f → (verdict_of (Err r) ≡ refuse n r.at) × (f ≡ Some r.at)
+pub refused-at : (n : ℕ) (r : Refusal) (f : Fault) → verdict_of (Err r) ≡ decided n f → (verdict_of (Err r) ≡ refuse n r.at) × (f ≡ Some r.at)
 refused-at n r None e = absurd (let z : ◌≡◌ {A = ℕ} 0 1 = cc in omega arith)
 refused-at n r (Some p) e = let q : p ≡ r.at = cc in (e ∙ ap (refuse n) q, ap Some q)
 

@@ -6,6 +6,7 @@ use Prim.Native.Nat.{ℕ, ◌+◌, ◌≤◌, ◌<◌}
 use native.Mathlib.Omega.{arith}
 use Rattle.drafts.specs.Marks.{place_by}
 use Rattle.statements.specs.Faults.{lower}
+use Rattle.language.specs.Limits as limit
 use Rattle.language.specs.Program.{Program, no_instr, instr_at}
 use Rattle.lists.specs.Lists.{keep, each}
 use Rattle.statements.specs.Faults.{Fault}
@@ -76,10 +77,10 @@ module _ (s sw : List ℕ) (kind : ℕ) (named : Bool) (p : Program) where
       go false = refl
 
 -- the tables of a text are some program with its marks
-pub asking : {s c sw en : List ℕ} → Kept s c sw en → Asking c sw
-asking k = record { program = draft_program k.lines k.tables; holds = k.tabled.holds; room = k.tabled.switch_room }
+pub asking : {s c sw en : List ℕ} → Kept s c sw en → Asking c
+asking k = record { program = draft_program k.lines k.tables; holds = k.tabled.holds }
 
-pub code-asked : {c sw : List ℕ} (n k : ℕ) → Asking c sw → n ≡ cell (table_of c) 0 → k < n → AskingAt c sw k
+pub code-asked : {c : List ℕ} (n k : ℕ) → Asking c → n ≡ cell (table_of c) 0 → k < n → AskingAt c k
 code-asked {c} n k a is l = record { asking = a; there = omega (arith, is, code_count c a.program a.holds) }
 
 -- g is at fault so far, and row has the marks that are left
@@ -128,6 +129,10 @@ module _ (s sw c : List ℕ) (kind : ℕ) (named : Bool) (f : Fault) where
       (λ p h. ap (each (instr_uses kind named p)) (drop_of_length-le p.code {i = k} (omega (arith, is, code_count c p h))))
 
 -- ---- entries
+
+-- no more than there may be
+pub entries-most : {c : List ℕ} {p : Program} {n : ℕ} → n ≡ cell (table_of c) 3 → HoldsProgram c p → n ≤ limit.entries
+entries-most {c} {p} is h = omega (arith, is, entry_count c p h, h.tabular.entries_most)
 
 -- there is a mark for each
 pub entries-fit : {c : List ℕ} {p : Program} (en : List ℕ) {n : ℕ} → n ≡ cell (table_of c) 3 → length en ≡ 128 → HoldsProgram c p → length (take n en) ≡ n

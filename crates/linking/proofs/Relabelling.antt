@@ -5,17 +5,18 @@ use mathlib.Core.List.{List, [], ◌∷◌, ◌++◌, map, map-append}
 use Prim.Native.Nat.{ℕ, zero, suc, ◌≤◌, ◌<◌}
 use native.Mathlib.Omega.{arith}
 use lib.Dec.{T}
-use lib.ListN.{length, get_or, set, take, length-map}
+use lib.ListN.{length, get_or, set, take, length-map, length-take}
 use lib.Seq.{take-suc, length-take-le, get_or-take}
 use Rattle.std.proofs.lemmas.List.{get_or-map, map_push}
 use Rattle.std.proofs.Math.Facts.{T_not-not}
 use Rattle.lists.specs.SearchLaws.{ahead-below}
+use Rattle.acceptance.specs.Switches.{switch_of}
 use Rattle.acceptance.proofs.ProgramLaws.{entries-count}
 use Rattle.acceptance.proofs.RowLaws.{each_map, keep-none, map-none}
 use Rattle.drafts.specs.Drafting.{draft_switch, draft_program}
 use Rattle.drafts.specs.Marks.{mark}
 use Rattle.drafts.specs.Tabled.{entry_items, Tabled}
-use Rattle.language.specs.Program.{Entry, Switch, Program, no_entry}
+use Rattle.language.specs.Program.{Entry, Program, no_entry}
 use Rattle.layout.specs.Bounds.{Each}
 use Rattle.layout.proofs.CellLaws.{each_in, each_right}
 use Rattle.layout.specs.Table.{all_entries}
@@ -74,9 +75,6 @@ entries-placed place (i ∷ js) = go (is word i) (if_any [] (λ j. cond (is text
         ≡ relabel (map (λ i. place i.chars) (cond b (i ∷ keep (is word) js) (keep (is word) js))) (cond b (record { label = 0; text = v } ∷ []) [] ++ entries_in (λ w. 0) js)
     go true v e = ap (λ (r : List Entry). record { label = place i.chars; text = v } ∷ r) e
     go false v e = e
-
-abbrev switch_of : (List ℕ → ℕ) → Choice → Switch
-switch_of place c = record { goes_by_name = c.goes_by_name; entries = entries_in place c.list }
 
 all_placed : (place : List ℕ → ℕ) (cs : List Choice)
     → each entries_of (map (switch_of place) cs) ≡ relabel (map (λ i. place i.chars) (each (λ c. keep (is word) c.list) cs)) (each entries_of (map draft_switch cs))
@@ -148,7 +146,8 @@ module _ (s lines : List ℕ) (t : Tables) (c sw en : List ℕ) (h : Tabled s li
   coded-place m = coded-as (λ p. label_by s p m) (λ k j p. refl)
 
   entries_few : length (all_entries coded) ≤ length en
-  entries_few = omega (arith, coded-long, entries-draft s lines t c sw en h, h.holds.tabular.entries_most, h.entry_room)
+  entries_few =
+      omega (arith, coded-long, length-take (length (entry_items t)) en, ap length h.entry_marks, length-map (entry_items t) (λ i. mark i))
 
   abbrev linked : Program
   linked = entries_resolved s en (length (all_entries coded)) coded
@@ -200,7 +199,6 @@ module _ (s lines : List ℕ) (t : Tables) (c sw en : List ℕ) (h : Tabled s li
         record {
           program = coded;
           holds = k;
-          room = h.entry_room;
           low = λ j l. let n : ℕ = length (entry_items t) in
               let b : j < n = omega (arith, coded-long) in
               let i : Item = get_or (entry_items t) j no_item in

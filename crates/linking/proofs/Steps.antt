@@ -6,8 +6,8 @@ use Prim.Native.Nat.{ℕ, zero, suc, ◌+◌, ◌*◌, ◌/◌, ◌%◌, ◌≤�
 use native.Mathlib.Numerals.{add-one}
 use native.Mathlib.Omega.{arith}
 use lib.Dec.{eqb}
-use lib.ListN.{length, get_or, set, take, length-set}
-use lib.Seq.{set-get_or, length-take-le}
+use lib.ListN.{length, get_or, set, take, length-set, length-take}
+use lib.Seq.{set-get_or}
 use borrow.Author.Tests.{eq-eqb, ne_eqb}
 use Rattle.drafts.specs.Marks.{word_by}
 use Rattle.finding.specs.Finding.{Tells}
@@ -23,7 +23,7 @@ use Rattle.layout.specs.Table.{arg_cell, all_entries}
 use Rattle.layout.specs.Places as layout
 use Rattle.lists.specs.Lists.{bytes_equal}
 use Rattle.lists.specs.ListLaws.{ahead-le}
-use Rattle.linking.proofs.Uses.{kind_of, cell-kind, switches_fit, argument_is}
+use Rattle.linking.proofs.Uses.{kind_of, cell-kind, switches-most, argument_is, instruction-there}
 use Rattle.linking.specs.Lookup.{label_by, switch_by, argument, Asking, AskingAt, AskingFor}
 use Rattle.packed.specs.Packed.{table_of}
 use Rattle.writing.proofs.Held.{entry_count, switch_count}
@@ -97,12 +97,12 @@ with-same k j p =
     ap (set p.code k) (same-argument j (instr_at p k)) ∙ set-get_or p.code k no_instr in
     λ i. record { code = e i; labels = p.labels; switches = p.switches; texts = p.texts; numbers = p.numbers }
 
-module _ (s sw c : List ℕ) (k j x : ℕ) (a : AskingFor c sw k j) (is : x ≡ cell (table_of c) (1 + j + (layout.first_instruction + 4 * k))) where
+module _ (s sw c : List ℕ) (k j x : ℕ) (a : AskingFor c k j) (is : x ≡ cell (table_of c) (1 + j + (layout.first_instruction + 4 * k))) where
   becomes : (p : Program) → HoldsProgram c p → resolved_arg s sw p (argument j (instr_at p k))
       ≡ cond (eqb (x % 8) 2) (label (label_by s p (x / 8))) (cond (eqb (x % 8) 3) (switch (switch_by s sw (length p.switches) (x / 8))) (argument j (instr_at p k)))
   becomes p h =
       let b : Arg = argument j (instr_at p k) in
-      let e : arg_cell p b ≡ x = sym (argument_is sw c k j x a is p h) in
+      let e : arg_cell p b ≡ x = sym (argument_is c k j x (instruction-there a.at) a.place is p h) in
       let f : kind_of b ≡ x % 8 = sym (cell-kind p b) ∙ ap (λ (y : ℕ). y % 8) e in
       resolved-by-kind s sw p b
       ∙ (λ i. cond (eqb (f i) 2) (label (label_by s p (e i / 8))) (cond (eqb (f i) 3) (switch (switch_by s sw (length p.switches) (e i / 8))) b))
@@ -146,17 +146,16 @@ module _ (s sw c : List ℕ) (k j x : ℕ) (a : AskingFor c sw k j) (is : x ≡ 
       other (Err b) i n e m a q f = true≢false (sym (i.some (omega (arith, e, m))))
 
 -- what a search for a switch answers is small
-pub switch-low : {c : List ℕ} (s sw : List ℕ) (n m v : ℕ) → Asking c sw → n ≡ cell (table_of c) 2 → v ≡ switch_by s sw n m → v ≤ 32
+pub switch-low : {c : List ℕ} (s sw : List ℕ) (n m v : ℕ) → Asking c → n ≡ cell (table_of c) 2 → v ≡ switch_by s sw n m → v ≤ 32
 switch-low s sw n m v a e f =
-    let l : n ≤ length sw = switches_fit n a e in
-    omega (arith, f, ahead-le (λ x. bytes_equal (word_by s m) (word_by s x)) (take n sw), length-take-le n sw l, l, a.room)
+    omega (arith, f, ahead-le (λ x. bytes_equal (word_by s m) (word_by s x)) (take n sw), length-take n sw, switches-most n a e)
 
 -- ---- instructions
 
-pub asking-after : {f : Program → Program} {c d sw : List ℕ} {k : ℕ} → ((p : Program) → length (f p).code ≡ length p.code) → AskingAt c sw k → Changes f c d → AskingAt d sw k
+pub asking-after : {f : Program → Program} {c d : List ℕ} {k : ℕ} → ((p : Program) → length (f p).code ≡ length p.code) → AskingAt c k → Changes f c d → AskingAt d k
 asking-after {f} e a x =
     let p : Program = a.asking.program in
-    record { asking = record { program = f p; holds = x.holds p a.asking.holds; room = a.asking.room }; there = omega (arith, a.there, e p) }
+    record { asking = record { program = f p; holds = x.holds p a.asking.holds }; there = omega (arith, a.there, e p) }
 
 module _ (s sw : List ℕ) where
   pub argument-long : (k j : ℕ) (p : Program) → length (argument_resolved s sw k j p).code ≡ length p.code

@@ -7,6 +7,7 @@ use native.Mathlib.Omega.{arith}
 use lib.ListN.{length, drop}
 use borrow.Author.Tests.{eq-eqb, ne_eqb}
 use Rattle.language.specs.Instructions.{operation}
+use Rattle.language.specs.Limits as limit
 use Rattle.language.specs.Program.{Arg, Instr, Program, no_instr, instr_at}
 use Rattle.language.specs.Program.Arg.{nothing, letter, label, switch, class, text}
 use Rattle.layout.proofs.ArgumentLaws.{operator-below, operator-range}
@@ -18,14 +19,14 @@ use Rattle.lists.specs.Lists.{bytes_equal}
 use Rattle.packed.specs.Packed.{table_of}
 use Rattle.writing.proofs.Growing.{parts, in_parts}
 use Rattle.writing.specs.Writing.{HoldsProgram}
-use Rattle.writing.proofs.Held.{code_count, switch_count}
+use Rattle.writing.proofs.Held.{code_count, label_count, switch_count}
 use Rattle.drafts.specs.Marks.{place_by, word_by}
 use Rattle.std.specs.Prelude.{Option, is_some}
 use Rattle.finding.proofs.Found.{some_any}
 use Rattle.finding.specs.Finding.{Locates}
 use Rattle.statements.specs.Faults.{Fault}
 use Rattle.linking.proofs.Faults.{joined-none, fault-one, Going, going_on, going-over}
-use Rattle.linking.specs.Lookup.{argument, marks_in, instr_marks, instr_uses, asked_by, is_label, is_switch, joined, known, faults, Asking, AskingAt, AskingFor, Judges}
+use Rattle.linking.specs.Lookup.{argument, marks_in, instr_marks, instr_uses, asked_by, is_label, is_switch, joined, known, faults, Asking, Bounded, AskingAt, Judges}
 
 argument_cell : (p : Program) (i : Instr) (j : ℕ) → j < 3 → cell (instr_cells p i) (1 + j) ≡ arg_cell p (argument j i)
 argument_cell p i zero h = refl
@@ -96,17 +97,17 @@ module _ (kind : ℕ) (p : Program) (i : Instr) where
 
 -- ---- what the functions tell
 
--- as many marks as switches
-pub switches_fit : {c sw : List ℕ} (n : ℕ) → Asking c sw → n ≡ cell (table_of c) 2 → n ≤ length sw
-switches_fit {c} n a e = omega (arith, e, switch_count c a.program a.holds, a.holds.tabular.switches_most, a.room)
+-- no more switches than there may be
+pub switches-most : {c : List ℕ} (n : ℕ) → Asking c → n ≡ cell (table_of c) 2 → n ≤ limit.switches
+switches-most {c} n a e = omega (arith, e, switch_count c a.program a.holds, a.holds.tabular.switches_most)
 
 -- instruction k is in every program that the table holds, with its argument j
-module _ (sw c : List ℕ) (k : ℕ) where
-  code-there : AskingAt c sw k → (p : Program) → HoldsProgram c p → k < length p.code
-  code-there a p h = omega (arith, a.there, code_count c a.asking.program a.asking.holds, code_count c p h)
+module _ (c : List ℕ) (k : ℕ) where
+  code-there : k < cell (table_of c) 0 → (p : Program) → HoldsProgram c p → k < length p.code
+  code-there l p h = omega (arith, l, code_count c p h)
 
-  pub argument_is : (j x : ℕ) → AskingFor c sw k j → x ≡ cell (table_of c) (1 + j + (layout.first_instruction + 4 * k)) → (p : Program) → HoldsProgram c p → x ≡ arg_cell p (argument j (instr_at p k))
-  argument_is j x a is p h = is ∙ argument-at c p h k (code-there a.at p h) j a.place
+  pub argument_is : (j x : ℕ) → k < cell (table_of c) 0 → j < 3 → x ≡ cell (table_of c) (1 + j + (layout.first_instruction + 4 * k)) → (p : Program) → HoldsProgram c p → x ≡ arg_cell p (argument j (instr_at p k))
+  argument_is j x l b is p h = is ∙ argument-at c p h k (code-there l p h) j b
 
 module _ (s sw c : List ℕ) (kind : ℕ) (named : Bool) where
   pub label-known : (m : ℕ) {o : Option ℕ} {b : Bool} → kind ≡ 2 → Locates c (λ p. p.labels) (λ l. bytes_equal (word_by s m) l.name) o → b ≡ is_some o → Judges c (λ p. known s sw kind named p m) b
@@ -124,17 +125,17 @@ module _ (s sw c : List ℕ) (kind : ℕ) (named : Bool) where
       → Judges c (λ p. joined f (faults s sw kind named p (m ∷ []))) r
   noted m f t u = record { is = λ p h. u ∙ ap (joined f) (fault-one s sw kind named p m (t.is p h)) }
 
-  module _ (k j : ℕ) (f : Fault) (x : ℕ) (a : AskingFor c sw k j) (is : x ≡ cell (table_of c) (1 + j + (layout.first_instruction + 4 * k))) where
+  module _ (k j : ℕ) (f : Fault) (x : ℕ) (l : k < cell (table_of c) 0) (b : j < 3) (is : x ≡ cell (table_of c) (1 + j + (layout.first_instruction + 4 * k))) where
     pub argument-other : (x % 8 ≡ kind → ⊥) → Judges c (λ p. joined f (faults s sw kind named p (marks_in kind (arg_cell p (argument j (instr_at p k)))))) f
     argument-other e =
-        record { is = λ p h. joined-none f ∙ ap (λ (ms : List ℕ). joined f (faults s sw kind named p ms)) (sym (not-of-kind kind x e) ∙ ap (marks_in kind) (argument_is sw c k j x a is p h)) }
+        record { is = λ p h. joined-none f ∙ ap (λ (ms : List ℕ). joined f (faults s sw kind named p ms)) (sym (not-of-kind kind x e) ∙ ap (marks_in kind) (argument_is c k j x l b is p h)) }
 
     pub argument-noted : {b : Bool} {r : Fault} → x % 8 ≡ kind → Judges c (λ p. known s sw kind named p (x / 8)) b → r ≡ joined f (cond b [] (place_by (x / 8) ∷ []))
         → Judges c (λ p. joined f (faults s sw kind named p (marks_in kind (arg_cell p (argument j (instr_at p k)))))) r
     argument-noted e t u =
         record {
           is = λ p h. (noted (x / 8) f t u).is p h
-              ∙ ap (λ (ms : List ℕ). joined f (faults s sw kind named p ms)) (sym (of-kind kind x e) ∙ ap (marks_in kind) (argument_is sw c k j x a is p h));
+              ∙ ap (λ (ms : List ℕ). joined f (faults s sw kind named p ms)) (sym (of-kind kind x e) ∙ ap (marks_in kind) (argument_is c k j x l b is p h));
         }
 
   module _ (k : ℕ) (f : Fault) where
@@ -150,7 +151,7 @@ module _ (s sw c : List ℕ) (kind : ℕ) (named : Bool) where
     arguments-next j l u t =
         going_on s sw c kind named f (arguments_left 0) (λ p. marks_in kind (arg_cell p (argument j (instr_at p k)))) u (λ p h. argument-next kind p (instr_at p k) j l) t
 
-  module _ (k : ℕ) (f : Fault) (a : AskingAt c sw k) where
+  module _ (k : ℕ) (f : Fault) (l : k < cell (table_of c) 0) where
     abbrev uses_at : Program → List ℕ
     uses_at p = instr_uses kind named p (instr_at p k)
 
@@ -160,7 +161,7 @@ module _ (s sw c : List ℕ) (kind : ℕ) (named : Bool) where
         record {
           is = λ p h. joined-none f
               ∙ ap (λ (b : Bool). joined f (faults s sw kind named p (cond b (instr_marks kind p (instr_at p k)) [])))
-              (sym e ∙ ap (asked_by kind named) (is ∙ operator_at c p h k (code-there sw c k a p h)));
+              (sym e ∙ ap (asked_by kind named) (is ∙ operator_at c p h k (code-there c k l p h)));
         }
 
     -- all of them
@@ -171,11 +172,20 @@ module _ (s sw c : List ℕ) (kind : ℕ) (named : Bool) where
         record {
           is = λ p h. (going-over s sw c kind named f (arguments_left k f 0) u (λ p h. refl)).is p h
               ∙ ap (λ (b : Bool). joined f (faults s sw kind named p (cond b (instr_marks kind p (instr_at p k)) [])))
-              (sym e ∙ ap (asked_by kind named) (is ∙ operator_at c p h k (code-there sw c k a p h)));
+              (sym e ∙ ap (asked_by kind named) (is ∙ operator_at c p h k (code-there c k l p h)));
         }
 
--- the number of instruction k's operator is that of an operator
-pub operator-there : {c sw : List ℕ} {k n : ℕ} → AskingAt c sw k → n ≡ cell (table_of c) (layout.first_instruction + 4 * k) % 64 → (0 < n) × (n ≤ 41)
-operator-there {c} {sw} {k} a e =
-    let p : Program = a.asking.program in
-    rw (e ∙ operator_at c p a.asking.holds k a.there) (operator-range (instr_at p k).op)
+-- what is known of the cells by whatever program they hold
+pub bounded : {c sw : List ℕ} → length sw ≡ limit.switches → Asking c → Bounded c sw
+bounded {c} room a =
+    let p : Program = a.program in
+    record {
+      room = room;
+      code_most = omega (arith, code_count c p a.holds, a.holds.tabular.code_most);
+      labels_most = omega (arith, label_count c p a.holds, a.holds.tabular.labels_most);
+      switches_most = omega (arith, switch_count c p a.holds, a.holds.tabular.switches_most);
+      operators = λ k l. rw (operator_at c p a.holds k (omega (arith, l, code_count c p a.holds))) (operator-range (instr_at p k).op);
+    }
+
+pub instruction-there : {c : List ℕ} {k : ℕ} → AskingAt c k → k < cell (table_of c) 0
+instruction-there {c} a = omega (arith, a.there, code_count c a.asking.program a.asking.holds)

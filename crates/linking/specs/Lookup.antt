@@ -1,13 +1,16 @@
 -- Names that are used, by their marks in the text s, in a table that holds a program with marks: the labels and switches that they name, and the places
 -- of those that name none (questions 12 and 13).
-use Rattle.std.specs.Prelude.{◌≡◌, Bool, true, false, cond, not, ◌&&◌, ◌||◌, List, [], ◌∷◌, ◌++◌, map, ℕ, zero, suc, ◌/◌, ◌%◌, ◌<◌, eqb, length, get_or, take}
+use Rattle.std.specs.Prelude.{◌≡◌, Bool, true, false, cond, not, ◌&&◌, ◌||◌, List, [], ◌∷◌, ◌++◌, map, ℕ, zero, suc, ◌+◌, ◌*◌, ◌/◌, ◌%◌, ◌<◌, ◌≤◌, eqb, length, get_or, take}
 use Rattle.std.specs.Bool.{beq}
 use Rattle.language.specs.Instructions.{number_of}
 use Rattle.language.specs.Limits as limit
 use Rattle.language.specs.Program.{Arg, Instr, Op, Switch, Program}
 use Rattle.language.specs.Program.Op.{SKONA, WYNA, SZUKAJ}
 use Rattle.layout.specs.Kinds.{label_kind, kinds}
+use Rattle.layout.specs.Cells.{cell}
+use Rattle.layout.specs.Places.{first_instruction, instruction_count, label_count, switch_count}
 use Rattle.layout.specs.Table.{arg_cell}
+use Rattle.packed.specs.Packed.{table_of}
 use Rattle.lists.specs.Lists.{ahead, any, keep, bytes_equal}
 use Rattle.drafts.specs.Marks.{place_by, word_by}
 use Rattle.statements.specs.StatementAt.{fault_of}
@@ -94,21 +97,33 @@ instr_uses kind named p i = cond (asked kind named i.op) (instr_marks kind p i) 
 
 -- ---- what is asked
 
--- the cells c hold some program; sw has the marks of its switches' names
-pub record Asking (c sw : List ℕ) : Type 0 where
+-- the cells c hold some program
+pub record Asking (c : List ℕ) : Type 0 where
   pub program : Program
   pub holds : HoldsProgram c program
-  pub room : length sw ≡ limit.switches
 
 -- and it has an instruction k
-pub record AskingAt (c sw : List ℕ) (k : ℕ) : Type 0 where
-  pub asking : Asking c sw
+pub record AskingAt (c : List ℕ) (k : ℕ) : Type 0 where
+  pub asking : Asking c
   pub there : k < length asking.program.code
 
 -- with its argument j
-pub record AskingFor (c sw : List ℕ) (k j : ℕ) : Type 0 where
-  pub at : AskingAt c sw k
+pub record AskingFor (c : List ℕ) (k j : ℕ) : Type 0 where
+  pub at : AskingAt c k
   pub place : j < 3
+
+-- the operator of instruction k
+abbrev pub operator_in : List ℕ → ℕ → ℕ
+operator_in c k = cell (table_of c) (first_instruction + 4 * k) % 64
+
+-- what is known of those cells, and of the marks sw of the switches' names, whatever that program is: how many marks there are; how many instructions,
+-- labels and switches there are at most; and that each instruction has an operator
+pub record Bounded (c sw : List ℕ) : Type 0 where
+  pub room : length sw ≡ limit.switches
+  pub code_most : cell (table_of c) instruction_count ≤ limit.instructions
+  pub labels_most : cell (table_of c) label_count ≤ limit.labels
+  pub switches_most : cell (table_of c) switch_count ≤ limit.switches
+  pub operators : (k : ℕ) → k < cell (table_of c) instruction_count → (0 < operator_in c k) × (operator_in c k ≤ 41)
 
 -- ---- what is promised
 

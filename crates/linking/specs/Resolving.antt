@@ -1,6 +1,5 @@
 -- Names become places: in the program that a table holds, the marks of labels and switches are replaced by their places.
-use Rattle.std.specs.Prelude.{◌≡◌, List, ℕ, zero, suc, ◌<◌, length, get_or}
-use Rattle.language.specs.Limits as limit
+use Rattle.std.specs.Prelude.{List, ℕ, zero, suc, ◌<◌, length, get_or}
 use Rattle.language.specs.Program.{Arg, Program, instr_at}
 use Rattle.language.specs.Program.Arg.{nothing, letter, label, switch, class, text}
 use Rattle.layout.specs.Table.{all_entries}
@@ -42,5 +41,4 @@ entries_resolved s en = all_changed (entry_resolved s en)
 pub record Labelling (s c en : List ℕ) : Type 0 where
   pub program : Program
   pub holds : HoldsProgram c program
-  pub room : length en ≡ limit.entries
   pub low : (k : ℕ) → k < length (all_entries program) → label_by s program (get_or en k 0) < 128

@@ -34,23 +34,20 @@ use Rattle.loading.specs.Told.{Loaded, told}
 
 -- ---- a text from its beginning to its end
 
-module _ {s lines names c : List ℕ} (h : Loadable s lines names c) where
-  pub unread : {sw en : List ℕ} → length sw ≡ limit.switches → length en ≡ limit.entries → Unread s lines names c sw en
+module _ {s lines c : List ℕ} (h : Loadable s lines c) where
+  pub unread : {sw en : List ℕ} → Unread s lines c sw en
   unfolding draft_program
-  unread y z =
+  unread =
       record {
         short = h.short;
         lined = h.lined;
-        room = h.names_room;
         tabled = record {
           sound = (blank-sound (length s)).tables;
           holds = h.holds;
           spelt_arguments = tt;
           spelt_entries = tt;
-          switch_room = y;
           switch_names = refl;
           switch_marked = λ k l. absurd (omega arith);
-          entry_room = z;
           entry_marks = refl;
         };
       }
@@ -87,15 +84,15 @@ module _ {s lines names c : List ℕ} (h : Loadable s lines names c) where
 -- ---- load
 
 module _ {s c : List ℕ} (h : Fit s c) {lines : List ℕ} (e : lines ≡ lines_of s) where
-  pub lent : {names : List ℕ} → length names ≡ limit.text → Lent s lines names c
-  lent l = record { short = h.short; lined = subst (λ (x : List ℕ). Lined x) (sym e) (text-lined s h.short); names_room = l; long = h.long }
+  pub lent : Lent s lines c
+  lent = record { short = h.short; lined = subst (λ (x : List ℕ). Lined x) (sym e) (text-lined s h.short); long = h.long }
 
   pub load-in : {r : Loaded} {d : List ℕ} → Leaves (text_loads s lines) c r d → Leaves (load_typed s) c r d
   load-in {r} {d} k = subst (λ x. Leaves (text_loads s x) c r d) e k
 
-module _ {s lines names c : List ℕ} (h : Lent s lines names c) {c₁ : List ℕ} (z : Cleared c c₁) where
-  pub loadable : Loadable s lines names c₁
-  loadable = record { short = h.short; lined = h.lined; names_room = h.names_room; holds = z.holds }
+module _ {s lines c : List ℕ} (h : Lent s lines c) {c₁ : List ℕ} (z : Cleared c c₁) where
+  pub loadable : Loadable s lines c₁
+  loadable = record { short = h.short; lined = h.lined; holds = z.holds }
 
   module _ {v : Verdict} {c₂ : List ℕ} (t : LoadsText s lines c₁ v c₂) where
     pub load-accepted : v ≡ Ok tt → Leaves (text_loads s lines) c (Ok tt) c₂

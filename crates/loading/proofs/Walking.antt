@@ -34,7 +34,7 @@ pub record Going (s lines c₀ : List ℕ) (n : ℕ) (g : Progress) (ms c sw en 
   pub left : text_loads s lines ≡ load_from lines (last_place s) draft (statements_at s n)
   pub beyond : drop limit.table c ≡ drop limit.table c₀
 
-pub going-none : {s lines ms c sw en : List ℕ} {g : Progress} → Unread s lines ms c sw en → Begun g → Going s lines c 0 g ms c sw en
+pub going-none : {s lines ms c sw en : List ℕ} {g : Progress} → Unread s lines c sw en → Begun g → Going s lines c 0 g ms c sw en
 going-none {s} {lines} {ms} {c} {sw} {en} h b =
     record {
       draft = blank;
@@ -42,7 +42,7 @@ going-none {s} {lines} {ms} {c} {sw} {en} h b =
         short = h.short;
         inside = omega arith;
         lined = h.lined;
-        drafted = b s lines ms c sw en h.room h.tabled;
+        drafted = b s lines ms c sw en h.tabled;
         before = record { names_few = omega arith; waiting_low = tt };
       };
       left = refl;

@@ -32,10 +32,9 @@ Fills s l = take (length s) l ≡ lines_of s
 -- ---- all statements
 
 -- nothing was read yet
-pub record Unread (s lines ms c sw en : List ℕ) : Type 0 where
+pub record Unread (s lines c sw en : List ℕ) : Type 0 where
   pub short : length s ≤ limit.text
   pub lined : Lined lines
-  pub room : length ms ≡ 32768
   pub tabled : Tabled s lines blank.tables c sw en
 
 -- g and the cells are those of a draft, from which the text still loads to the same
@@ -51,10 +50,9 @@ pub record ReadsText (s lines c : List ℕ) (r : Read) (ms' c' sw' en' : List �
 
 -- ---- the whole text, on a table that is all zeros
 
-pub record Loadable (s lines ms c : List ℕ) : Type 0 where
+pub record Loadable (s lines c : List ℕ) : Type 0 where
   pub short : length s ≤ limit.text
   pub lined : Lined lines
-  pub names_room : length ms ≡ limit.text
   pub holds : HoldsProgram c no_program
 
 pub record Accepts (s lines d : List ℕ) : Type 0 where
@@ -75,12 +73,11 @@ pub record Refuses (lines : List ℕ) (question : Question) (at : ℕ) (c : List
   pub line_is : r.line ≡ line_at lines at
   pub cleared : Cleared c d
 
--- ---- the whole text, on any table that is long enough, with a row for the names of its labels
+-- ---- the whole text, on any table that is long enough
 
-pub record Lent (s lines ms c : List ℕ) : Type 0 where
+pub record Lent (s lines c : List ℕ) : Type 0 where
   pub short : length s ≤ limit.text
   pub lined : Lined lines
-  pub names_room : length ms ≡ limit.text
   pub long : limit.table ≤ length c
 
 -- r is the answer of x, and d is what x leaves in the cells c of the table

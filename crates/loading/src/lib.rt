@@ -32,12 +32,12 @@ fn fill_lines(text: &[u8], lines: &mut [u16])
 fn read_statements(
     text: &[u8],
     lines: &[u16],
-    names: &mut [u32],
+    names: &mut [u32; Machine::TEXT],
     table: &mut [u32],
-    switches: &mut [u32],
-    entries: &mut [u32],
+    switches: &mut [u32; Machine::SWITCHES],
+    entries: &mut [u32; Machine::ENTRIES],
 ) -> Result<Progress, Refusal>
-    requires { Unread text.now lines.now names.old table.old switches.old entries.old }
+    requires { Unread text.now lines.now table.old switches.old entries.old }
     ensures { ReadsText text.now lines.now table.old result names.new table.new switches.new entries.new }
 {
     let mut p = begin();
@@ -51,8 +51,13 @@ fn read_statements(
 }
 
 // Reads a text on a table of zeros, with room for its switches and their entries, and with a row for the names of its labels.
-fn load_text(text: &[u8], lines: &[u16], names: &mut [u32], table: &mut [u32]) -> Verdict
-    requires { Loadable text.now lines.now names.old table.old }
+fn load_text(
+    text: &[u8],
+    lines: &[u16],
+    names: &mut [u32; Machine::TEXT],
+    table: &mut [u32],
+) -> Verdict
+    requires { Loadable text.now lines.now table.old }
     ensures { LoadsText text.now lines.now table.old result table.new }
 {
     let mut switches = [0u32; Machine::SWITCHES];
@@ -76,8 +81,13 @@ fn refuse(lines: &[u16], r: Refusal, cells: &mut [u32]) -> Rejected
 
 // On a table that is long enough, with the lines of the text's bytes. The row `names` is for use here alone.
 // A match and no `map_err`: a proof knows nothing of the cells that a closure borrows and changes.
-pub fn load_lined(text: &[u8], lines: &[u16], names: &mut [u32], table: &mut [u32]) -> Loaded
-    requires { Lent text.now lines.now names.old table.old }
+pub fn load_lined(
+    text: &[u8],
+    lines: &[u16],
+    names: &mut [u32; Machine::TEXT],
+    table: &mut [u32],
+) -> Loaded
+    requires { Lent text.now lines.now table.old }
     ensures { Leaves (text_loads text.now lines.now) table.old result table.new }
 {
     clear_table(table);

@@ -16,9 +16,8 @@ use Rattle.statements.specs.StatementAt.{fault_of}
 use Rattle.syntax.specs.Tables.{Draft, blank, is_first}
 use Rattle.progress.specs.declared.Progress.{Progress}
 
--- the marks of all labels met: room, and what they name
+-- the marks of all labels met, and what they name
 pub record NamesKept (s : List ℕ) (d : Draft) (count : ℕ) (ms : List ℕ) : Type 0 where
-  pub room : length ms ≡ 32768
   pub count_is : length d.names ≡ count
   pub names_are : names_of s (take count ms) ≡ d.names
   pub marked : (k : ℕ) → k < count → Marked s (get_or ms k 0)
@@ -63,4 +62,4 @@ pub record Before (n : ℕ) (d : Draft) : Type 0 where
 
 -- a text of which nothing was read
 abbrev pub Begun : Progress → Type 0
-Begun g = (s lines ms c sw en : List ℕ) → length ms ≡ 32768 → Tabled s lines blank.tables c sw en → Drafted s lines blank g ms c sw en
+Begun g = (s lines ms c sw en : List ℕ) → Tabled s lines blank.tables c sw en → Drafted s lines blank g ms c sw en

@@ -1,9 +1,8 @@
 -- A text of which nothing was read, and the places of a draft after one more statement.
 use Rattle.std.specs.Option.{is_some, is_none}
-use Rattle.std.proofs.Common.{sym}
 use Rattle.std.proofs.lemmas.Bool.{false≢true}
-use Rattle.std.specs.Prelude.{◌≡◌, refl, Bool, true, false, not, cond, Option, Some, List, [], ◌∷◌, ◌++◌, ℕ, ◌+◌, ◌≤◌, length}
-use Rattle.std.proofs.Common.{arith, length-append}
+use Rattle.std.specs.Prelude.{◌≡◌, refl, Bool, true, false, not, cond, Option, Some, List, [], ◌∷◌, ◌++◌, ℕ, ◌+◌, ◌≤◌, length, take}
+use Rattle.std.proofs.Common.{sym, ap, ◌∙◌, arith, length-append, length-take}
 use Rattle.std.proofs.lemmas.List.{length-map}
 use Rattle.lists.specs.ListLaws.{keep-few}
 use Rattle.acceptance.proofs.RowLaws.{each_map, each_keep}
@@ -18,7 +17,8 @@ use Rattle.syntax.specs.Items.Sort.{word}
 use Rattle.syntax.specs.Statements.{is_operator, front, labels_in, operator}
 use Rattle.syntax.specs.Tables.{Draft, contents, draft_after}
 use Rattle.words.specs.declared.Edition.{Edition}
-use Rattle.progress.specs.Progress.{Before, Begun}
+use Rattle.headings.specs.Below.DraftsMarks.{word_by}
+use Rattle.progress.specs.Progress.{NamesKept, Before, Begun}
 
 -- whether there is no section yet
 pub none-asked : (r : Bool) (section : Option ℕ) → is_some section ≡ not r → is_none section ≡ r
@@ -37,19 +37,27 @@ pub begun : Begun (record {
   closing = record { kons = false; konp = false; early = None; fault = None };
   ended = None;
 })
-begun s lines ms c sw en room tabled =
+begun s lines ms c sw en tabled =
     record {
       sound = blank-sound (length s);
       tabled = tabled;
       tells = record {
         section = record { first_is = refl; there = tt; is = refl };
         edition = record { is = refl; unchosen = λ e. refl };
-        names = record { room = room; count_is = refl; names_are = refl; marked = λ k h. absurd (omega (arith, h)); short = λ k h. absurd (omega (arith, h)) };
+        names = record { count_is = refl; names_are = refl; marked = λ k h. absurd (omega (arith, h)); short = λ k h. absurd (omega (arith, h)) };
         waiting = record { few = omega arith; size = refl; marks = refl; spelt = tt };
         closing = record { kons_is = refl; konp_is = refl; early_is = refl; fault_is = refl };
         ended = refl;
       };
     }
+
+-- ---- the labels of a draft
+
+-- the marks of all of them have a place
+pub labels-most : {s : List ℕ} {d : Draft} {count : ℕ} {ms : List ℕ} → NamesKept s d count ms → count ≤ length ms
+labels-most {s} {count = count} {ms = ms} k =
+    let e : length (take count ms) ≡ count = sym (length-map (take count ms) (word_by s)) ∙ ap length k.names_are ∙ k.count_is in
+    omega (arith, length-take count ms, e)
 
 -- ---- the places of a draft
 

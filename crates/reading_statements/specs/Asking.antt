@@ -1,6 +1,5 @@
 -- The questions of a statement before its arguments, and what the functions that ask them promise.
-use Rattle.std.specs.Prelude.{◌≡◌, Bool, true, cond, List, ◌++◌, ℕ, take}
-use Rattle.drafts.specs.Marks.{marks_in}
+use Rattle.std.specs.Prelude.{◌≡◌, Bool, true, cond, List, ◌++◌, ℕ}
 use Rattle.judging.specs.Below.Names.{names_of, repeated_by, reserved_by}
 use Rattle.statements.specs.Checks.{worst}
 use Rattle.statements.specs.Faults.{verdict_of, decided, then}
@@ -29,10 +28,9 @@ abbrev pub OperatorAsked : Head → Bool → Bool → Fault → told.Verdict →
 OperatorAsked h first english zero r =
     (s : List ℕ) (n : ℕ) → Headed s n h → ZeroTold first (statement_at s n) zero → verdict_of r ≡ operator_verdict (statement_at s n) first english
 
--- 06 and 70 of the labels of a text s whose marks stand in ms from index a to index b
-abbrev pub names_verdict : List ℕ → List ℕ → ℕ → ℕ → Verdict
-names_verdict s ms a b =
-    then (decided 6 (fault_of (repeated_by s (names_of s (take a ms)) (marks_in ms a b)))) (decided 70 (fault_of (reserved_by s (marks_in ms a b))))
+-- 06 and 70 of labels of a text s, by their marks, behind those of the marks bs
+abbrev pub names_verdict : List ℕ → List ℕ → List ℕ → Verdict
+names_verdict s bs ms = then (decided 6 (fault_of (repeated_by s (names_of s bs) ms))) (decided 70 (fault_of (reserved_by s ms)))
 
 -- 14, 15 and 16, whose verdict is w, 00 or 10, 08, 06 and 70
 abbrev pub opening_questions : Draft → List Item → List Question

@@ -26,6 +26,7 @@ use Rattle.judging.specs.Below.Names.{names_of, Repeatable}
 use Rattle.judging.specs.Below.RepeatedLaws.{NamedLabel, repeated-marks, reserved-marks}
 use Rattle.progress.specs.Advancing.{Advanceable}
 use Rattle.progress.specs.Progress.{NamesKept}
+use Rattle.progress.specs.ProgressLaws.{labels-most}
 use Rattle.progress.specs.declared.Progress.{Progress}
 use Rattle.statements.specs.StatementAt.{statements_at, statement_at, fault_of}
 use Rattle.statements.specs.Faults.{Fault}
@@ -71,11 +72,8 @@ module _ {s : List ℕ} {n : ℕ} {d : Draft} {g : Progress} {h : Head} {ms : Li
   abbrev ls : List Item
   ls = labels_in x
 
-  few : g.names ≤ n
-  few = omega (arith, j.tells.names.count_is, j.before.names_few)
-
   before-most : g.names ≤ length ms
-  before-most = omega (arith, j.tells.names.room, few, j.inside, j.low)
+  before-most = labels-most j.tells.names
 
   front_length : length (take g.names ms) ≡ g.names
   front_length = length-take-le g.names ms before-most
@@ -124,7 +122,6 @@ module _ {s : List ℕ} {n : ℕ} {d : Draft} {g : Progress} {h : Head} {ms : Li
     unfolding draft_after
     names-kept =
         record {
-          room = j.tells.names.room;
           count_is = omega (arith, length-append d.names (contents ls), length-map ls (λ i. i.chars), j.tells.names.count_is, j.count_is);
           names_are =
               ap (names_of s) j.own ∙ map-append (word_by s) (take g.names ms) (map mark ls)
@@ -147,6 +144,6 @@ module _ {s : List ℕ} {n : ℕ} {d : Draft} {g : Progress} {h : Head} {ms : Li
     named : Each (NamedLabel s) ls
     named = each_map _ (NamedLabel s) (λ l e. record { is_word = e.0.1; spelt = e.0.0; short = e.1 }) ls (each_both (SpeltWord s) ShortItem ls words (labels-have ShortItem x all_short))
 
-    pub names-told : names_verdict s ms g.names h.names
+    pub names-told : names_verdict s (take g.names ms) (marks_in ms g.names h.names)
         ≡ then (decided 6 (fault_of (repeated d.names ls))) (decided 70 (fault_of (places (keep (λ l. reserved l.chars) ls))))
     names-told = rw (j.tells.names.names_are, marks-own, repeated-marks s d.names ls named, reserved-marks s ls named) refl

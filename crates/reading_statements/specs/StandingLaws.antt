@@ -1,6 +1,6 @@
 -- A statement whose head is read: the marks before it stay, and what its reader tells. And the empty statement.
 use Rattle.std.specs.Prelude.{◌≡◌, refl, Ok, Bool, true, false, ◌&&◌, List, [], ◌++◌, map, ℕ, ◌-◌, ◌≤◌, ◌<◌, eqb, length, get_or, take, drop}
-use Rattle.std.proofs.Common.{sym, ap, ◌∙◌, subst, arith, length-drop, length-take-le, take_all, take-take, take_at, get_or-take}
+use Rattle.std.proofs.Common.{sym, ap, ◌∙◌, subst, arith, length-drop, length-take, length-take-le, take_all, take-take, take_at, get_or-take}
 use Rattle.std.proofs.lemmas.Bool.{not-true, and_parts}
 use Rattle.acceptance.proofs.RowLaws.{each_map}
 use Rattle.drafts.specs.Marks.{mark, length_by, Marked}
@@ -12,6 +12,7 @@ use Rattle.lists.specs.Lists.{filled}
 use Rattle.judging.specs.Below.Names.{names_of}
 use Rattle.progress.specs.AdvancingLaws.{empty-draft}
 use Rattle.progress.specs.Progress.{TellsDraft, Drafted}
+use Rattle.progress.specs.ProgressLaws.{labels-most}
 use Rattle.progress.specs.declared.Progress.{Progress}
 use Rattle.statements.proofs.Ends.{ends-here}
 use Rattle.heads.specs.Heads.{following}
@@ -35,13 +36,13 @@ cell_same : (count : ℕ) (ms ms' : List ℕ) → take count ms' ≡ take count 
 cell_same count ms ms' same k l = sym (get_or-take count ms k 0 l) ∙ ap (λ (xs : List ℕ). get_or xs k 0) (sym same) ∙ get_or-take count ms' k 0 l
 
 module _ {s : List ℕ} {d : Draft} {g : Progress} {ms ms' : List ℕ} where
-  tells-same : take g.names ms' ≡ take g.names ms → length ms' ≡ length ms → g.names ≤ length ms → TellsDraft s d g ms → TellsDraft s d g ms'
-  tells-same same size most t =
+  tells-same : take g.names ms' ≡ take g.names ms → TellsDraft s d g ms → TellsDraft s d g ms'
+  tells-same same t =
+      let most : g.names ≤ length ms = labels-most t.names in
       record {
         section = t.section;
         edition = t.edition;
         names = record {
-          room = size ∙ t.names.room;
           count_is = t.names.count_is;
           names_are = ap (names_of s) same ∙ t.names.names_are;
           marked = λ k l. subst (Marked s) (cell_same g.names ms ms' same k l) (t.names.marked k l);
@@ -51,7 +52,7 @@ module _ {s : List ℕ} {d : Draft} {g : Progress} {ms ms' : List ℕ} where
           few = t.waiting.few;
           size = t.waiting.size;
           marks =
-              marks-behind ms' (g.names - g.waiting) g.names (omega arith) (omega (arith, size, most))
+              marks-behind ms' (g.names - g.waiting) g.names (omega arith) (omega (arith, length-take g.names ms', length-take g.names ms, ap length same, most))
               ∙ ap (drop (g.names - g.waiting)) same
               ∙ sym (marks-behind ms (g.names - g.waiting) g.names (omega arith) most)
               ∙ t.waiting.marks;
@@ -91,7 +92,7 @@ module _ {s lines : List ℕ} {n : ℕ} {d : Draft} {g : Progress} {h : Head} {m
   put = (head-here r.inside o).1
 
   most : g.names ≤ length ms
-  most = omega (arith, r.drafted.tells.names.room, r.drafted.tells.names.count_is, r.before.names_few, r.inside, r.short)
+  most = labels-most r.drafted.tells.names
 
   kept : take g.names ms' ≡ take g.names ms
   kept =
@@ -105,7 +106,7 @@ module _ {s lines : List ℕ} {n : ℕ} {d : Draft} {g : Progress} {h : Head} {m
           low = r.short;
           inside = r.inside;
           headed = (head-here r.inside o).0;
-          tells = tells-same kept put.room most r.drafted.tells;
+          tells = tells-same kept r.drafted.tells;
           before = r.before;
           short = each_map _ _ (λ i e. e.fine.short) d.waiting r.drafted.sound.waiting;
           count_is = put.count_is;

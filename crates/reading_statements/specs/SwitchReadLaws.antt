@@ -156,7 +156,7 @@ module _ {s lines : List ℕ} {n : ℕ} {d : Draft} {g : Progress} {h : Head} {m
 
   -- the cells of its own entries, up to the last that has room
   pub switch-declarable : length tx ≡ limit.entries → {own : ℕ} → own ≡ min l.words (limit.entries - cell (table_of c) 3)
-      → DeclarableSwitch s (declaration h.op named (get_or ms (from g) 0) l) c sw (take own tx)
+      → DeclarableSwitch s (declaration h.op named (get_or ms (from g) 0) l) c (take own tx)
   switch-declarable long {own} e =
       record {
         list = record {
@@ -172,7 +172,6 @@ module _ {s lines : List ℕ} {n : ℕ} {d : Draft} {g : Progress} {h : Head} {m
         };
         held = record { program = draft_program lines t; holds = r.tabled.holds };
         kept = kept_here;
-        switch_marks = r.tabled.switch_room;
       }
 
   -- 11, and the tables after it
@@ -190,11 +189,11 @@ module _ {s lines : List ℕ} {n : ℕ} {d : Draft} {g : Progress} {h : Head} {m
         ∙ ap fault_of (entries_fit s h.op.at h.op.next p (no-fault (switch_excess s h.op.at h.op.next p) (sym (u.told p r.tabled.holds) ∙ e)))
 
     -- of the marks em was lent, and is put back
-    module _ (later : List ℕ) {en' : List ℕ} (parts : en' ≡ take (cell (table_of c) 3) en ++ (em ++ later)) (size : length en' ≡ length en) where
+    module _ (later : List ℕ) {en' : List ℕ} (parts : en' ≡ take (cell (table_of c) 3) en ++ (em ++ later)) (entry_room : length en ≡ limit.entries) (switch_room : length sw ≡ limit.switches) where
       marks-put : f ≡ None → let words = keep (is word) (statement_at s h.op.next) in take (cell (table_of c) 3 + length words) en' ≡ take (cell (table_of c) 3) en ++ map mark words
       marks-put e =
           let words = keep (is word) (statement_at s h.op.next) in
-          let low : cell (table_of c) 3 ≤ length en = omega (arith, held_most r.tabled, r.tabled.entry_room) in
+          let low : cell (table_of c) 3 ≤ length en = omega (arith, held_most r.tabled, entry_room) in
           rw parts (behind-held (cell (table_of c) 3) en em later (map mark words) low (length words) (list.marks (over-clear e)) (length-map words mark))
 
       pub switch-last : (f ≡ fault_of (table_faults d x)) × (f ≡ None → Tabled s lines (tables_after t ls x) c' sw' en')
@@ -204,7 +203,7 @@ module _ {s lines : List ℕ} {n : ℕ} {d : Draft} {g : Progress} {h : Head} {m
             let q : tables_after t ls x ≡ with_switch t ls x named = by-own (with_instr t ls x) (with_switch t ls x) t in
             rw q
             (switch-tabled lines t named ls here u r.tabled en' (marks-put e) (rw q at (tables-here r early told-last e)) (spelt-rest r early) name-spells
-            ((names-kept r.judging (plain r early)).marked (from g) own-mark.0) size kept_here e),
+            ((names-kept r.judging (plain r early)).marked (from g) own-mark.0) switch_room kept_here e),
       )
 
 -- ---- it is read
@@ -214,8 +213,8 @@ listable k low = record { stands = k.stands; low = low }
 
 module _ {s : List ℕ} {h : Head} (some : is_switch (head_keyword h) ≡ true) {named : Bool} (named-is : named ≡ is_by_name (head_keyword h)) where
   -- there is room for the mark of its name
-  pub name-inside : {n : ℕ} {d : Draft} {g : Progress} {ms : List ℕ} → Judging s n d g h ms → from g < length ms
-  name-inside j = omega (arith, inside j.headed (switch-acts j.headed some named-is), j.low, j.before.names_few, j.tells.names.count_is, j.tells.names.room)
+  pub name-inside : {n : ℕ} {d : Draft} {g : Progress} {ms : List ℕ} → Judging s n d g h ms → from g < limit.text
+  name-inside j = omega (arith, inside j.headed (switch-acts j.headed some named-is), j.low, j.before.names_few, j.tells.names.count_is)
 
   -- v is the verdict of all questions before 11, where u is that of the questions of the head
   module _ {l : Listed} {em : List ℕ} {tx : List (Option Quoted)} (list : ReadsList s h.op named h.worst l em tx) where
@@ -231,15 +230,15 @@ module _ {s : List ℕ} {h : Head} (some : is_switch (head_keyword h) ≡ true) 
           early-told d (statement_at s n) (asked n d r.judging (whole-list k) (λ e. zero-here k (switch-acts k some named-is))) (switch-asked k some named-is list.fault_is) all
 
       pub declarable-switch : {n : ℕ} {d : Draft} → Reading s lines n d g h ms c sw en → length tx ≡ limit.entries → {k : ℕ} → k ≡ min l.words (limit.entries - held) → v ≡ Ok tt
-          → DeclarableSwitch s b c sw (take k tx)
+          → DeclarableSwitch s b c (take k tx)
       declarable-switch {n} {d} r long {k} few e =
-          subst (λ (y : Declaration). DeclarableSwitch s y c sw (take k tx)) (sym b_is)
+          subst (λ (y : Declaration). DeclarableSwitch s y c (take k tx)) (sym b_is)
           (switch-declarable r (answered _ (early-switch n d r ∙ ap verdict_of e)) some named-is list (rw held-is at room) long (rw held-is at few))
 
       pub read-switch : (w : told.Verdict) {c' sw' : List ℕ} → Admits (λ f. DeclaresSwitch s b c sw f c' sw') v w c c' → (later : List ℕ) {en' : List ℕ} → en' ≡ take held en ++ (em ++ later)
-          → length en' ≡ length en → {y : Read} → Finishes g h (unchanged g) ms w y → Reads s lines g h ms c sw en (answers y l.next) c' sw' en'
-      read-switch w {c'} {sw'} t later parts size z =
+          → length en ≡ limit.entries → length sw ≡ limit.switches → {y : Read} → Finishes g h (unchanged g) ms w y → Reads s lines g h ms c sw en (answers y l.next) c' sw' en'
+      read-switch w {c'} {sw'} t later parts entry_room switch_room z =
           read_as early-switch
-          (λ n d r q f u. switch-last r q some named-is list (rw held-is at room) f (subst (λ (y : Declaration). DeclaresSwitch s y c sw f c' sw') b_is u) later (rw held-is at parts) size)
+          (λ n d r q f u. switch-last r q some named-is list (rw held-is at room) f (subst (λ (y : Declaration). DeclaresSwitch s y c sw f c' sw') b_is u) later (rw held-is at parts) entry_room switch_room)
           (λ n d r q. acting r q (switch-acts r.judging.headed some named-is))
           (λ n k. ends-behind k (there k (switch-acts k some named-is)) list.ends) w t z

@@ -1,14 +1,14 @@
 // One statement: read in one pass, its questions in order, its place in the tables, and what is known after it.
 #![tactic(auto)]
 
-ghost use Rattle.std.specs.Prelude.{◌≡◌, ◌&&◌, ◌≤◌, eqb};
+ghost use Rattle.std.specs.Prelude.{◌≡◌, ◌&&◌, eqb};
 ghost use Rattle.statements.specs.Faults.{verdict_of};
 ghost use Rattle.statements.specs.StatementAt.{stops};
 ghost use Rattle.std.specs.Prelude.{Ok};
 ghost use Rattle.std.specs.Option.{is_none};
 ghost use Rattle.declaring_switches.specs.Below.Declaring.{Declarable, DeclaresValues};
 ghost use Rattle.declaring_switches.specs.Switches.{DeclarableSwitch, DeclaresSwitch};
-ghost use Rattle.judging.specs.Below.Names.{Repeatable};
+ghost use Rattle.judging.specs.Below.Names.{Marks};
 ghost use Rattle.progress.specs.Advancing.{Advanceable};
 ghost use Rattle.words.specs.Keywords.{is_english};
 ghost use Rattle.reading_statements.specs.Admitting.{declaration, unchanged, Admits};
@@ -53,19 +53,15 @@ fn ask_operator(head: Head, p: Progress, zero: Fault) -> Verdict
     }
 }
 
-// Questions 06 and 70 of the labels whose marks stand from index `from` to index `to`. What is at fault in 70 is found first, which
+// Questions 06 and 70 of a statement's own labels, by their marks, behind those of the statements before. What is at fault in 70 is found first, which
 // is faster; 06 decides before it.
-fn ask_names(text: &[u8], names: &[u32], from: usize, to: usize) -> Verdict
-    requires { Repeatable text.now names.now to × (from ≤ to) }
-    ensures { verdict_of result ≡ names_verdict text.now names.now from to }
+fn ask_names(text: &[u8], before: &[u32], own: &[u32]) -> Verdict
+    requires { Marks text.now before.now × Marks text.now own.now }
+    ensures { verdict_of result ≡ names_verdict text.now before.now own.now }
 {
-    let own = &names[from..to];
     let reserved = decide(Question::LabelName, first_reserved(text, own));
     first_of(
-        decide(
-            Question::RepeatedLabel,
-            first_repeated(text, &names[..from], own),
-        ),
+        decide(Question::RepeatedLabel, first_repeated(text, before, own)),
         reserved,
     )
 }
@@ -77,7 +73,7 @@ fn ask_head(
     head: Head,
     zero: Fault,
     p: Progress,
-    names: &[u32],
+    names: &[u32; Machine::TEXT],
 ) -> Verdict
     requires { HeadAskable text.now worst p head names.now }
     ensures { HeadAsked text.now worst p head names.now zero result }
@@ -88,7 +84,7 @@ fn ask_head(
         Question::SwitchLabels,
         label_fault(head, &names[p.first_waiting()..head.names]),
     );
-    let named = ask_names(text, names, p.names, head.names);
+    let named = ask_names(text, &names[..p.names], &names[p.names..head.names]);
     first_of(operator, first_of(labels, named))
 }
 
@@ -115,10 +111,10 @@ fn admit_switch(
     asked: Verdict,
     d: Declaration,
     table: &mut [u32],
-    switches: &mut [u32],
+    switches: &mut [u32; Machine::SWITCHES],
     texts: &[Option<Quoted>],
 ) -> Verdict
-    requires { asked ≡ Ok tt → DeclarableSwitch text.now d table.old switches.old texts.now }
+    requires { asked ≡ Ok tt → DeclarableSwitch text.now d table.old texts.now }
     ensures { Admits (λ f. DeclaresSwitch text.now d table.old switches.old f table.new switches.new) asked result table.old table.new }
 {
     let Ok(()) = asked else {
@@ -162,7 +158,7 @@ fn read_instruction(
     head: Head,
     operator: Operator,
     p: Progress,
-    names: &[u32],
+    names: &[u32; Machine::TEXT],
     table: &mut [u32],
 ) -> Answer
     requires { InstrReadable text.now lines.now p head operator names.now table.old }
@@ -211,10 +207,10 @@ fn read_switch(
     text: &[u8],
     head: Head,
     p: Progress,
-    names: &[u32],
+    names: &[u32; Machine::TEXT],
     table: &mut [u32],
-    switches: &mut [u32],
-    entries: &mut [u32],
+    switches: &mut [u32; Machine::SWITCHES],
+    entries: &mut [u32; Machine::ENTRIES],
 ) -> Answer
     requires { SwitchReadable text.now p head names.now table.old switches.old entries.old }
     ensures { ReadsSwitch text.now p head names.now table.old switches.old entries.old result table.new switches.new entries.new }
@@ -258,7 +254,7 @@ fn ending_of(text: &[u8], head: Head, rest: Rest, section: Option<u32>) -> Endin
 }
 
 // A statement that is neither: SEKCJA, KONS, KONP, or labels alone.
-fn read_ending(text: &[u8], head: Head, p: Progress, names: &[u32]) -> Answer
+fn read_ending(text: &[u8], head: Head, p: Progress, names: &[u32; Machine::TEXT]) -> Answer
     requires { EndingReadable text.now p head names.now }
     ensures { ReadsEnding text.now p head names.now result }
 {
@@ -288,10 +284,10 @@ pub fn read_statement(
     lines: &[u16],
     n: usize,
     p: Progress,
-    names: &mut [u32],
+    names: &mut [u32; Machine::TEXT],
     table: &mut [u32],
-    switches: &mut [u32],
-    entries: &mut [u32],
+    switches: &mut [u32; Machine::SWITCHES],
+    entries: &mut [u32; Machine::ENTRIES],
 ) -> Answer
     requires { Readable text.now lines.now n p names.old table.old switches.old entries.old }
     ensures { ReadsStatement text.now lines.now n p names.old table.old switches.old entries.old result names.new table.new switches.new entries.new }

@@ -108,6 +108,7 @@ pub fn takes_next(star: bool, b: u8) -> bool
 }
 
 // Inside a comment: the place behind its `*/`, if it is closed.
+// A `for`, and no `windows(2).position(..)`: that is told by runs of windows, and no proof from those to the bytes of the text was closed.
 // The text and a place in it are two parameters here and below, since most of the bodies use each by itself.
 fn past_comment(text: &[u8], n: usize) -> Option<usize>
     requires { n ≤ length text.now }
@@ -137,7 +138,7 @@ fn pass(text: &[u8], n: usize) -> Result<Option<usize>, Unclosed>
 }
 
 // The place behind separators and comments.
-// A `while`: each turn jumps behind a separator or a comment, so there is no range to run over.
+// A `while`: each turn jumps behind a separator or a comment, so there is no range to run over; and `pass` is asked of a byte, so the end is asked here.
 pub fn skip(text: &[u8], n: usize) -> Result<usize, Unclosed>
     requires { n ≤ length text.now }
     ensures { Skipped text.now n result }

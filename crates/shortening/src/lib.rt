@@ -26,17 +26,14 @@ fn is_refused_by(loaded: Loaded, question: Question) -> bool
 }
 
 // The place where the line begins that ends at `end`.
-// A loop: `rposition` tells its answer by the runs of `next_back`, of which std has no lemma for the items of a slice or a range.
 fn line_start(text: &[u8], end: usize) -> usize
     requires { Ending text.now end }
     ensures { LineStart text.now end result }
 {
-    for at in (1..end).rev() {
-        if text[at - 1] == b'\n' {
-            return at;
-        }
+    match text[..end - 1].iter().rposition(|&b| b == b'\n') {
+        Some(last) => last + 1,
+        None => 0,
     }
-    0
 }
 
 // Puts the bytes from `from` to `middle` behind those from `middle` to `to`.

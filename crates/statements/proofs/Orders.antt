@@ -51,5 +51,5 @@ int-nat a b = go (ltb a b) refl (ltb b a) refl
         let m = ltb-false b a f in
         rw (e, f, eq-eqb a b (omega (arith, l, m))) refl
 
-pub question-cmp : (q r : Question) → order.TheImpl.cmp-value.it q r ≡ nat_cmp (question_number q) (question_number r)
-question-cmp q r = ap (λ (n : ℤ). int_cmp n (get_or numbers (tag_of the_type r) (pos 0))) (told q) ∙ ap (λ (n : ℤ). int_cmp (pos (question_number q)) n) (told r) ∙ int-nat (question_number q) (question_number r)
+pub question_cmp : (q r : Question) → order.TheImpl.cmp-value.it q r ≡ nat_cmp (question_number q) (question_number r)
+question_cmp q r = ap (λ (n : ℤ). int_cmp n (get_or numbers (tag_of the_type r) (pos 0))) (told q) ∙ ap (λ (n : ℤ). int_cmp (pos (question_number q)) n) (told r) ∙ int-nat (question_number q) (question_number r)

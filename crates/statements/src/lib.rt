@@ -129,6 +129,7 @@ fn item_verdict(t: Token) -> Verdict
 // The three questions of the items so far, with one more item.
 // Inlined, and with the verdict so far handed back whole: a match over both copies it at each item, which takes 13.2 ns for 5.4.
 #[inline(always)]
+#[tactic(auto, using(crate::proofs::Orders::question_cmp))]
 pub fn worse(v: Verdict, t: Token) -> Verdict
     ensures { result ≡ worse v (token_verdict t) }
 {

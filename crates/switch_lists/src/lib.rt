@@ -82,8 +82,8 @@ fn put_item(t: Token, after: bool, k: usize, entries: &mut [u32], texts: &mut [O
 // The list of a switch with the operator `t`. The marks of its labels come to `entries`, and their texts to `texts`, as far as there is room.
 // `named` is a flag, as `goes_by_name : Bool` is in the specification of a switch, which has two types of them.
 // `entries` and `texts` are no row of pairs: the marks of all lists stay till the second pass, the texts are of this list alone.
-// Each turn goes on behind the item that it read, so there is no range to run over; and no iterator over the items, which would end without the token that
-// ends the statement, and `next` is asked of that.
+// Each turn goes on behind the item that it read, so there is no range to run over; and no iterator over the items, nor a `while` up to the token that ends
+// the statement: of that token too it is asked whether a colon is left before it.
 pub fn read_list(
     text: &[u8],
     t: Token,

@@ -15,7 +15,7 @@ use Rattle.syntax.specs.Below.Quoted.{bytes}
 use Rattle.syntax.specs.Below.ListsTableLaws.{below, beq-eq}
 use Rattle.syntax.specs.Statements as Spec
 use Rattle.syntax.specs.Statements.{editions, words_of, own, reserved, same_keyword}
-use Rattle.words.specs.Keywords.{keyword_by, told, edition_of, known_by, own_by, is_own, known, word_at, place_in, Placed, other_word, meanings, keyword_at, shared, edition_at, slot, in_a_row, beginnings, guesses, guess, of_row, InRow, Lent}
+use Rattle.words.specs.Keywords.{keyword_by, told, edition_of, known_by, own_by, is_own, known, is_english, word_at, is_shared, FoundAt, Found, place_in, Placed, other_word, meanings, keyword_at, shared, edition_at, slot, in_a_row, beginnings, guesses, guess, of_row, InRow, Lent}
 use Rattle.words.specs.declared.Edition.{Edition}
 use Rattle.words.specs.declared.Keyword.{Keyword}
 use Rattle.words.proofs.Operators.{same-operator}
@@ -454,16 +454,6 @@ module _ (w : List ℕ) {j : ℕ} (p : j ≡ place_in false w) where
       let t : any (bytes_equal w) (words_of false) ≡ false = has-place false w ∙ le-ltb (place_in false w) 46 (omega arith) in
       rw t (ap (λ (n : ℕ). ltb n 46) q ∙ sym (has-place true w))
 
-module _ (w : List ℕ) where
-  pub reserved-here : (a : Option ℕ) → Placed false w a → is_some a ≡ true → true ≡ reserved w
-  reserved-here None p e = absurd (false≢true e)
-  reserved-here (Some j) p e = reserved-polish w p.0 p.1
-
-  pub reserved-there : (a b : Option ℕ) → Placed false w a → is_some a ≡ false → Placed true w b → is_some b ≡ reserved w
-  reserved-there (Some j) b p e q = absurd (false≢true (sym e))
-  reserved-there None None p e q = reserved-english w (sym p) (omega arith) (sym q)
-  reserved-there None (Some k) p e q = rw (lt-ltb k 46 q.1) at (reserved-english w (sym p) (omega arith) q.0)
-
 -- "SEKCJA or its English word chooses": of the two words the English edition's own one is SECTION
 chosen : Bool → ℕ → Bool
 chosen e j = not (same_keyword Spec.Keyword.SEKCJA (get_or meanings j Spec.Keyword.unknown)) || beq (bytes_equal (word_at e j) (bytes "SECTION")) (own true (word_at e j))
@@ -500,3 +490,70 @@ module _ (w : List ℕ) where
           let t = has-place false w ∙ lt-ltb (place_in false w) 46 (omega (arith, its-place false w j h q, h)) in
           chosen-here false j h q (by_place (keyword-first w t ∙ ap (λ (i : ℕ). get_or meanings i Spec.Keyword.unknown) (its-place false w j h q)))
       first (Case.none n) = later n (case true w)
+
+-- ---- by what was found
+
+-- the words of both editions are those of two keywords
+shared_by : Option Keyword → Bool
+shared_by None = false
+shared_by (Some k) = is_shared k
+
+tells-shared : ℕ → Bool
+tells-shared j = beq (shared_by (keyword_at j)) (shared j)
+
+keyword-shared : (j : ℕ) → j < 46 → {k : Keyword} → Some k ≡ keyword_at j → is_shared k ≡ shared j
+unfolding tells-shared shared_by keyword_at
+keyword-shared j h e = ap shared_by e ∙ beq-eq (shared_by (keyword_at j)) (shared j) (below tells-shared 46 tt j h)
+
+-- each of them is a Polish one
+polish-too : ℕ → Bool
+polish-too j = not (shared j) || any (bytes_equal (word_at true j)) (words_of false)
+
+all-polish-too : (j : ℕ) → j < 46 → T (polish-too j)
+unfolding polish-too
+all-polish-too = below polish-too 46 tt
+
+module _ (w : List ℕ) where
+  not_shared : (j : ℕ) → place_in false w ≡ 46 → j ≡ place_in true w → j < 46 → shared j ≡ false
+  unfolding polish-too
+  not_shared j n p l = go (case true w)
+    where
+      open-shared : (a b : Bool) → T (not a || b) → b ≡ false → a ≡ false
+      open-shared true b t e = absurd (subst T e t)
+      open-shared false b t e = refl
+
+      go : Case true w → shared j ≡ false
+      go (Case.one i h q) =
+          let s : i ≡ j = sym (its-place true w i h q) ∙ sym p in
+          let none : any (bytes_equal w) (words_of false) ≡ false = has-place false w ∙ le-ltb (place_in false w) 46 (omega (arith, n)) in
+          let e : any (bytes_equal (word_at true j)) (words_of false) ≡ false = ap (λ (v : List ℕ). any (bytes_equal v) (words_of false)) (sym (q ∙ ap (word_at true) s)) ∙ none in
+          open-shared (shared j) (any (bytes_equal (word_at true j)) (words_of false)) (all-polish-too j l) e
+      go (Case.none m) = absurd (omega (arith, no_place true w m, p, l))
+
+  pub known-found : (e : Edition) (j : ℕ) → FoundAt w e j → {k : Keyword} → Some k ≡ keyword_at j
+      → {o : Option Edition} → o ≡ then_some (not (is_shared k)) e → Some (record { keyword = k; edition = o }) ≡ known w
+  known-found Edition.Polish j f {k} k-is o-is = known-polish w j f.0 f.1 k-is (o-is ∙ ap (λ b. then_some (not b) Edition.Polish) (keyword-shared j f.1 k-is) ∙ by-place (shared j))
+    where
+      by-place : (b : Bool) → then_some (not b) Edition.Polish ≡ cond b None (Some Edition.Polish)
+      by-place true = refl
+      by-place false = refl
+  known-found Edition.English j f {k} k-is {o} o-is =
+      let own-one : is_shared k ≡ false = keyword-shared j f.2 k-is ∙ not_shared j f.0 f.1 f.2 in
+      let is-own-one : o ≡ Some Edition.English = o-is ∙ ap (λ b. then_some (not b) Edition.English) own-one in
+      ap (λ x. Some (record { keyword = k; edition = x })) is-own-one ∙ known-english w 46 (sym f.0) (omega arith) f.1 f.2 k-is
+
+  pub known-unfound : (r : Option (Edition × ℕ)) → Found w r → r ≡ None → None ≡ known w
+  known-unfound None f e = known_none w 46 (sym f.0) (omega arith) (sym f.1) (omega arith)
+  known-unfound (Some p) f e = absurd (false≢true (sym (ap is_some e)))
+
+  pub reserved-found : (r : Option (Edition × ℕ)) → Found w r → is_some r ≡ reserved w
+  reserved-found None f = reserved-english w (sym f.0) (omega arith) (sym f.1)
+  reserved-found (Some (Edition.Polish, j)) f = reserved-polish w f.0 f.1
+  reserved-found (Some (Edition.English, j)) f = rw (lt-ltb j 46 f.2) at (reserved-english w (sym f.0) (omega arith) f.1)
+
+  pub other-found : (e : Edition) (j : ℕ) → FoundAt w e j → {b : Bool} → b ≡ not (is_english e) → word_at b j ≡ other_word w
+  other-found Edition.Polish j f b-is = ap (λ b. word_at b j) b-is ∙ other-english w f.0 f.1
+  other-found Edition.English j f b-is = ap (λ b. word_at b j) b-is ∙ other-polish w (sym f.0) (omega arith) f.1 f.2
+
+  pub other-unfound : (place_in false w ≡ 46) × (place_in true w ≡ 46) → w ≡ other_word w
+  other-unfound f = other_none w (sym f.0) (omega arith) (sym f.1) (omega arith)

@@ -1,6 +1,7 @@
 -- What the functions on keywords answer.
 use Rattle.std.specs.Option.{MatchOption}
 use Rattle.std.specs.Prelude.{◌≡◌, Option, None, Some, Bool, true, false, cond, not, ◌||◌, List, [], ◌∷◌, map, ℕ, ◌+◌, ◌*◌, ◌-◌, ◌%◌, ◌<◌, ◌≤◌, eqb, ltb, length, get_or, take, drop}
+use Rattle.language.specs.Instructions.{number_of}
 use Rattle.language.specs.Operators.{op_by}
 use Rattle.syntax.specs.Below.Lists.{ahead, joined, bytes_equal}
 use Rattle.syntax.specs.Below.Quoted.{bytes}
@@ -85,13 +86,29 @@ meanings = map (λ r. r.2) editions
 unfoldable pub keyword_at : ℕ → Option Keyword
 keyword_at j = told (get_or meanings j Spec.Keyword.unknown)
 
--- KONP and STOP
+-- the place of KONP and STOP, the words of both editions
 abbrev pub shared : ℕ → Bool
 shared j = eqb j 2 || eqb j 45
+
+-- a keyword that both editions have the word of: KONP and STOP, the last of the 41 instructions
+abbrev pub is_shared : Keyword → Bool
+is_shared Keyword.Sekcja = false
+is_shared Keyword.Kons = false
+is_shared Keyword.Konp = true
+is_shared (Keyword.Switch goes_by_name) = false
+is_shared (Keyword.Instr o) = eqb (number_of (op_by o)) 41
 
 -- the edition whose own the Polish word of a place is
 abbrev pub edition_at : ℕ → Option Edition
 edition_at j = cond (shared j) None (Some Edition.Polish)
+
+-- the edition that has a word, the Polish one where both have it, and the word's place there
+abbrev pub FoundAt : List ℕ → Edition → ℕ → Type 0
+FoundAt w Edition.Polish j = (j ≡ place_in false w) × (j < 46)
+FoundAt w Edition.English j = (place_in false w ≡ 46) × (j ≡ place_in true w) × (j < 46)
+
+abbrev pub Found : List ℕ → Option (Edition × ℕ) → Type 0
+Found w r = MatchOption r ((place_in false w ≡ 46) × (place_in true w ≡ 46)) (λ p. FoundAt w p.0 p.1)
 
 -- a word in the other edition: that of its place there; a word of no edition is itself
 unfoldable pub other_word : List ℕ → List ℕ

@@ -22,9 +22,9 @@ class_letter b = among b (bytes "LDBR")
 unfoldable pub is_class : List ℕ → Bool
 is_class w = filled w && all class_letter w
 
--- its letters, as the table of a program has them; 0 for a word that is no class
-unfoldable pub class_of : List ℕ → ℕ
-class_of w = cond (is_class w) (class_mask (classes w)) 0
+-- its letters, as the table of a program has them; none for a word that is no class
+unfoldable pub class_of : List ℕ → Option ℕ
+class_of w = cond (is_class w) (Some (class_mask (classes w))) None
 
 -- the code of the number that a word is
 unfoldable pub numeral_of : List ℕ → Option ℕ

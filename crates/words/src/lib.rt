@@ -9,7 +9,7 @@ ghost use Rattle.syntax.specs.Below.Program.{identifier};
 ghost use Rattle.syntax.specs.Below.Lists.{all, among};
 ghost use Rattle.syntax.specs.Statements.{reserved};
 ghost use Rattle.words.specs.Words.{class_letter, is_class, class_of, numeral_of, Lettering, letter_meant, indexed_of};
-ghost use Rattle.words.specs.Keywords.{is_english, is_own, known, keyword_at, edition_at, word_at, Placed, other_word, slot, guess, Lent};
+ghost use Rattle.words.specs.Keywords.{is_english, is_own, known, keyword_at, word_at, is_shared, Found, Placed, other_word, slot, guess, Lent};
 
 use appending::append;
 use language::Operator;
@@ -54,7 +54,7 @@ pub enum Keyword {
     Sekcja,
     Kons,
     Konp,
-    // NAZWA or, otherwise, INDEKS
+    // NAZWA or, otherwise, INDEKS, as `switch goes_by_name` of the specification
     Switch(bool),
     Instr(Operator),
 }
@@ -112,7 +112,7 @@ fn all_class_letters(w: &[u8]) -> bool
     w.iter().all(|b| b"LDBR".contains(b))
 }
 
-pub fn is_class(w: &[u8]) -> bool
+fn is_class(w: &[u8]) -> bool
     ensures { result ≡ is_class w.now }
 {
     !w.is_empty() & all_class_letters(w)
@@ -131,17 +131,14 @@ fn bit(t: bool, n: u8) -> u8
     if t { n } else { 0 }
 }
 
-// The letters of a class, L 1, D 2, B 4, R 8; 0 for a word that is no class.
-pub fn class_mask(w: &[u8]) -> u8
+// The letters of a class, L 1, D 2, B 4, R 8; none for a word that is no class.
+pub fn class_mask(w: &[u8]) -> Option<u8>
     ensures { result ≡ class_of w.now }
 {
-    if is_class(w) {
-        return bit(has(w, b'L'), 1)
-            + bit(has(w, b'D'), 2)
-            + bit(has(w, b'B'), 4)
-            + bit(has(w, b'R'), 8);
+    if !is_class(w) {
+        return None;
     }
-    0
+    Some(bit(has(w, b'L'), 1) + bit(has(w, b'D'), 2) + bit(has(w, b'B'), 4) + bit(has(w, b'R'), 8))
 }
 
 // The code of a number in range, as the table of a program has it: its value + 8,388,607.
@@ -286,31 +283,33 @@ fn keyword_at(j: u8) -> Keyword
     }
 }
 
-// The edition whose own the Polish word at place j is: both have KONP and STOP.
-fn edition_at(j: u8) -> Option<Edition>
-    ensures { result ≡ edition_at j }
+// Whether both editions have the word of a keyword: KONP and STOP.
+fn is_shared(keyword: Keyword) -> bool
+    ensures { result ≡ is_shared keyword }
 {
-    if (j == 2) | (j == 45) {
-        None
-    } else {
-        Some(Edition::Polish)
+    matches!(keyword, Keyword::Konp | Keyword::Instr(Operator::STOP))
+}
+
+// The edition that has a word, the Polish one where both have it, and the word's place there.
+fn found(w: &[u8]) -> Option<(Edition, u8)>
+    ensures { Found w.now result }
+{
+    if let Some(j) = Lexicon::of(Edition::Polish).place(w) {
+        return Some((Edition::Polish, j));
     }
+    let k = Lexicon::of(Edition::English).place(w)?;
+    Some((Edition::English, k))
 }
 
 // What is known of a word, if it is a keyword of either edition.
 pub fn keyword_of(w: &[u8]) -> Option<Known>
     ensures { result ≡ known w.now }
 {
-    if let Some(j) = Lexicon::of(Edition::Polish).place(w) {
-        return Some(Known {
-            keyword: keyword_at(j),
-            edition: edition_at(j),
-        });
-    }
-    let k = Lexicon::of(Edition::English).place(w)?;
+    let (edition, j) = found(w)?;
+    let keyword = keyword_at(j);
     Some(Known {
-        keyword: keyword_at(k),
-        edition: Some(Edition::English),
+        keyword,
+        edition: (!is_shared(keyword)).then_some(edition),
     })
 }
 
@@ -318,19 +317,15 @@ pub fn keyword_of(w: &[u8]) -> Option<Known>
 pub fn is_reserved(w: &[u8]) -> bool
     ensures { result ≡ reserved w.now }
 {
-    Lexicon::of(Edition::Polish).place(w).is_some()
-        || Lexicon::of(Edition::English).place(w).is_some()
+    found(w).is_some()
 }
 
 // Appends what a word is in the other edition: the word that has its place there. A word of no edition is itself.
 pub fn append_other(w: &[u8], out: &mut [u8], at: usize) -> Option<usize>
     ensures { Appends out.old at (other_word w.now) result out.new }
 {
-    if let Some(j) = Lexicon::of(Edition::Polish).place(w) {
-        return append(out, at, Lexicon::of(Edition::English).word(j));
-    }
-    if let Some(k) = Lexicon::of(Edition::English).place(w) {
-        return append(out, at, Lexicon::of(Edition::Polish).word(k));
-    }
-    append(out, at, w)
+    let Some((edition, j)) = found(w) else {
+        return append(out, at, w);
+    };
+    append(out, at, Lexicon::of(edition.other()).word(j))
 }

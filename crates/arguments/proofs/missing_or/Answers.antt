@@ -5,8 +5,8 @@ use Rattle.arguments.proofs.missing_or.Goals as goal
 
 pub returns-then-count-from : goal.returns-then-count-from
 unfolding missing_or
-returns-then-count-from c = rw (← c.least.ensures.0, ← c.from.ensures, lt-ltb _ _ c.if-count-from.true)
+returns-then-count-from c = rw (← c.from.ensures, ← c.least.ensures.0, ← c.from-2.ensures, lt-ltb _ _ c.if-count-from.true)
 
 pub returns-else-count-from : goal.returns-else-count-from
 unfolding missing_or
-returns-else-count-from c = rw (← c.least.ensures.0, ← c.from.ensures, le-ltb _ _ c.if-count-from.false)
+returns-else-count-from c = rw (← c.from.ensures, ← c.least.ensures.0, ← c.from-2.ensures, le-ltb _ _ c.if-count-from.false)

@@ -11,6 +11,7 @@ use Rattle.arguments.specs.Arguments.{missing_or}
 use Rattle.forms.specs.Reading.{taken_at}
 use Rattle.arguments.specs.ValueLaws.{mark-low, value-stood}
 use Rattle.arguments.specs.ReadLaws.{gathering-first, placed, reads_so, gathering-on, all_read, refusable, refused}
+use Rattle.language.specs.Instructions.{number_of}
 use Rattle.language.specs.Operators.{op_by}
 use Rattle.std.specs.Prelude.{None}
 use Rattle.arguments.proofs.read_arguments.Goals as goal
@@ -23,9 +24,8 @@ next_item-u-requires c = c.loop-live.invariant.passing.within.most
 
 pub returns-then-stops : goal.returns-then-stops
 returns-then-stops c =
-    rw (← c.from-op.ensures)
-    (all_read c.requires c.loop-live.invariant c.next_item-u.ensures (sym c.stops.ensures ∙ c.if-stops.true)
-    (c.missing_or.ensures ∙ ap (λ (k : ℕ). missing_or c.from-op.result c.args.t.at k None) c.from.ensures) c.following.ensures)
+    all_read c.requires c.loop-live.invariant c.next_item-u.ensures (sym c.stops.ensures ∙ c.if-stops.true)
+    (c.missing_or.ensures ∙ ap (λ (k : ℕ). missing_or (number_of (op_by c.args.operator)) c.args.t.at k None) c.from.ensures) c.following.ensures
 
 pub item_kind-k-requires : goal.item_kind-k-requires
 item_kind-k-requires c = record { stands = c.next_item-u.ensures.stands; low = c.requires.low }
@@ -36,11 +36,10 @@ refuse-requires c = refusable c.requires c.loop-live.invariant
 pub returns-in-Err : goal.returns-in-Err
 returns-in-Err c = let l = c.loop-live in
     let here = sym c.stops.ensures ∙ c.if-stops.false in
-    let a = taken_at c.from-op.result l.live l.place c.item_kind-k.result.set.bits in
-    rw (← c.from-op.ensures)
-    (refused c.requires l.invariant
+    let a = taken_at (number_of (op_by c.args.operator)) l.live l.place c.item_kind-k.result.set.bits in
+    refused c.requires l.invariant
     (λ o h. err-accepted o l.live l.place c.next_item-u.ensures here a (turned l.live l.place refl c.item_kind-k.ensures.set_is o h) _ refl c.in-Err.ensures)
-    c.refuse.ensures)
+    c.refuse.ensures
 
 pub value_by-requires : goal.value_by-requires
 value_by-requires c = mark-low (record { stands = c.next_item-u.ensures.stands; low = c.requires.low })
@@ -50,7 +49,7 @@ bounds-values-from c =
     let here = sym c.stops.ensures ∙ c.if-stops.false in
     let a = ok-accepted _ _ _ c.in-Ok.ensures in
     let b = no_colon-accepted _ _ _ c.in-Ok.ensures in
-    let l : c.loop-live.place < 3 = placed c.loop-live.invariant c.next_item-u.ensures here b a.is c.item_kind-k.ensures.set_is a.some (op_by c.args.operator) (sym c.from-op.ensures) in
+    let l : c.loop-live.place < 3 = placed c.loop-live.invariant c.next_item-u.ensures here b a.is c.item_kind-k.ensures.set_is a.some (op_by c.args.operator) refl in
     omega (arith, c.from-in-loop-live.ensures, l)
 
 pub overflow_add-place : goal.overflow_add-place
@@ -69,6 +68,6 @@ loop-live-preserved c =
     let o = op_by c.args.operator in
     let a = ok-accepted _ _ _ c.in-Ok.ensures in
     let b = no_colon-accepted _ _ _ c.in-Ok.ensures in
-    let reads = reads_so c.loop-live.invariant k here b a.is kind.set_is a.some o (sym c.from-op.ensures) in
-    gathering-on c.loop-live.invariant k here b a.is kind.set_is a.some o (sym c.from-op.ensures) a.bare refl
+    let reads = reads_so c.loop-live.invariant k here b a.is kind.set_is a.some o refl in
+    gathering-on c.loop-live.invariant k here b a.is kind.set_is a.some o refl a.bare refl
     (value-stood (record { stands = k.stands; low = c.requires.low }) kind reads c.value_by.ensures) c.from-in-loop-live.ensures refl c.worse-low.ensures

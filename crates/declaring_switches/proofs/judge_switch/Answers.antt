@@ -1,6 +1,5 @@
 -- `declaring_switches::judge_switch` meets its contract.
 use native.Mathlib.Omega.{arith}
-use Rattle.statements.specs.Faults.{lower}
 use Rattle.declaring_switches.proofs.Texts.{entering-first, row-enterable, entering-more, text-refused, texts-entered, lower-rest, judged-switch}
 use Rattle.declaring_switches.proofs.judge_switch.Goals as goal
 

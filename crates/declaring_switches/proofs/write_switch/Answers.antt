@@ -20,7 +20,7 @@ pub loop-entry-preserved : goal.loop-entry-preserved
 loop-entry-preserved c = filling-more (listing c.requires c.put_switch.ensures) c.loop-entry.invariant c.loop-entry-test.true c.entry_ref-v.ensures c.put_entry.ensures (omega arith)
 
 pub bounds-switches-n : goal.bounds-switches-n
-bounds-switches-n c = switch-index c.requires c.switches-n.ensures.is
+bounds-switches-n c = omega (arith, switch-index c.requires c.switches-n.ensures.is)
 
 pub returns : goal.returns
 returns c =

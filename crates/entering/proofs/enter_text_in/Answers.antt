@@ -7,7 +7,7 @@ pub enter_text_of-requires : goal.enter_text_of-requires
 enter_text_of-requires c = value-text c.requires c.in-Text.is
 
 pub returns-in-Text : goal.returns-in-Text
-returns-in-Text c = λ i h. c.enter_text_of.ensures i (value-is_text h c.in-Text.is) (value-names h c.in-Text.is)
+returns-in-Text c = λ i h. rw c.is_ok.ensures.value (c.enter_text_of.ensures.enters i (value-is_text h c.in-Text.is) (value-names h c.in-Text.is))
 
 pub returns-in_default : goal.returns-in_default
 returns-in_default c = λ i h. value-past h (no_text c.args.x (opened c.in_default.in_default-own.keys2))

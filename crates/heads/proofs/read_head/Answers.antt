@@ -55,4 +55,4 @@ loop-t-preserved c =
     let w = c.worse-worst.ensures in
     let y = sym c.is_operator.ensures ∙ (or_parts _ _ c.if-stops-is_operator.false).1 in
     let e = c.lower-fault.ensures ∙ ap (lower c.loop-t.fault) c.name_fault.ensures in
-    going-on (still-reading u k g f z w y e c.mark.ensures (ap (λ m. c.loop-t.c + m) (c.from-c.ensures ∙ byte-is _ ∙ ap (λ (b : Bool). cond b 1 0) c.is.ensures))) (goes_on u k g z) c.next_item-t-in-loop-t.ensures
+    going-on (still-reading u k g f z w (omega arith) y e c.mark.ensures (ap (λ m. c.loop-t.c + m) (c.from-c.ensures ∙ byte-is _ ∙ ap (λ (b : Bool). cond b 1 0) c.is.ensures))) (goes_on u k g z) c.next_item-t-in-loop-t.ensures

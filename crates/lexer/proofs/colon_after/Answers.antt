@@ -11,5 +11,5 @@ pub returns-in-Ok-2 : goal.returns-in-Ok-2
 returns-in-Ok-2 c =
     no_colon-here c.in-Ok.ensures refl (omega (arith, c.type_inv.text c.in-Ok.at)) (one_at c.args.text.now c.in-Ok.at 57 c.starts_with.ensures.value c.if-starts_with.false)
 
-pub returns-in-Err : goal.returns-in-Err
-returns-in-Err c = colon-open c.in-Err.ensures refl
+pub returns-in-Ok-2-2 : goal.returns-in-Ok-2-2
+returns-in-Ok-2-2 c = colon-open c.in-Ok-2.ensures refl

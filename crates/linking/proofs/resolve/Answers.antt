@@ -4,7 +4,11 @@ use Rattle.std.proofs.lemmas.Result.{err_from_is_err_and}
 use Rattle.statements.specs.Faults.{verdict_of}
 use Rattle.linking.proofs.Answers.{no_label, no_switch, none-at, entries-labelled, all-linked}
 use Rattle.linking.proofs.Faults.{asking}
+use Rattle.linking.proofs.Uses.{bounded}
 use Rattle.linking.proofs.resolve.Goals as goal
+
+pub invariant_of-draft-2 : goal.invariant_of-draft-2
+invariant_of-draft-2 c = record { bounded = bounded c.told-sw (asking c.requires) }
 
 pub undeclared_label-requires : goal.undeclared_label-requires
 undeclared_label-requires c = c.requires

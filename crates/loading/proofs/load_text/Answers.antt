@@ -1,11 +1,11 @@
 -- `loading::load_text` meets its contract.
-use mathlib.Core.Path.{◌≡◌, refl}
+use mathlib.Core.Path.{◌≡◌}
 use Rattle.std.proofs.Common.{rules, Err}
 use Rattle.loading.proofs.Outcomes.{unread, text-refused, finishable, text-finished}
 use Rattle.loading.proofs.load_text.Goals as goal
 
 pub read_statements-requires : goal.read_statements-requires
-read_statements-requires c = unread c.requires refl refl
+read_statements-requires c = unread c.requires
 
 pub finish-requires : goal.finish-requires
 finish-requires c = finishable c.requires c.read_statements.ensures c.in_ok-p.p c.in_ok-p.was

@@ -5,6 +5,7 @@ use native.Mathlib.Omega.{arith}
 use Rattle.std.proofs.Common.{rules, Err}
 use Rattle.acceptance.proofs.RowLaws.{answered}
 use Rattle.statements.specs.Faults.{decided, then, verdict_of}
+use Rattle.judging.specs.Below.RepeatedLaws.{marks-within, marks-before}
 use Rattle.reading_statements.specs.GatheringLaws as gathering
 use Rattle.reading_statements.specs.QuestionLaws.{items-told, names-told, opening-told}
 use Rattle.reading_statements.proofs.ask_head.Goals as goal
@@ -20,13 +21,14 @@ slice_bounds-label_fault-start c =
 pub slice_bounds-label_fault-end : goal.slice_bounds-label_fault-end
 slice_bounds-label_fault-end c =
     let p = c.requires in
-    (gathering.labels-inside p.judging (answered _ (items-told c.args.text.now p.place p.worst_is ∙ ap verdict_of c.in_ok-worst.was))).1
+    omega (arith, (gathering.labels-inside p.judging (answered _ (items-told c.args.text.now p.place p.worst_is ∙ ap verdict_of c.in_ok-worst.was))).1)
 
 pub ask_names-named-requires : goal.ask_names-named-requires
 ask_names-named-requires c =
     let p = c.requires in
     let r = gathering.repeatable p.judging (answered _ (items-told c.args.text.now p.place p.worst_is ∙ ap verdict_of c.in_ok-worst.was)) in
-    (r, (gathering.advanceable p.judging).order)
+    let order = (gathering.advanceable p.judging).order in
+    (marks-before r c.args.p.names order, marks-within r c.args.p.names c.args.head.names (omega arith))
 
 pub returns-in_err-worst : goal.returns-in_err-worst
 returns-in_err-worst c = λ n d j e z.

@@ -1,15 +1,13 @@
 -- `reading_statements::ask_names` meets its contract.
 use mathlib.Core.Path.{ap, ◌∙◌}
-use native.Mathlib.Omega.{arith}
-use Rattle.judging.specs.Below.RepeatedLaws.{marks-within, marks-before}
 use Rattle.statements.specs.Faults.{decided, then}
 use Rattle.reading_statements.proofs.ask_names.Goals as goal
 
 pub first_reserved-requires : goal.first_reserved-requires
-first_reserved-requires c = marks-within c.requires.0 c.args.from c.args.to (omega arith)
+first_reserved-requires c = c.requires.1
 
 pub first_repeated-requires : goal.first_repeated-requires
-first_repeated-requires c = (marks-before c.requires.0 c.args.from c.requires.1, marks-within c.requires.0 c.args.from c.args.to (omega arith))
+first_repeated-requires c = c.requires
 
 pub returns : goal.returns
 returns c =

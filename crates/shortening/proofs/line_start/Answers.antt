@@ -1,21 +1,10 @@
 -- `shortening::line_start` meets its contract.
-use native.Mathlib.Omega.{arith}
-use Rattle.shortening.proofs.LastLine.{scan-begin, scan-more, scan-lf, scan-end}
+use Rattle.std.proofs.Common.{rules}
+use Rattle.shortening.proofs.LastLine.{start-found, start-none}
 use Rattle.shortening.proofs.line_start.Goals as goal
 
-pub loop-at-init : goal.loop-at-init
-loop-at-init c = scan-begin c.args.text.now c.args.end c.requires
+pub returns-in-Some : goal.returns-in-Some
+returns-in-Some c = start-found c.args.text.now c.args.end c.requires c.in-Some.last (search rules) (search rules) (search rules)
 
-pub bounds-text-at : goal.bounds-text-at
-bounds-text-at c = omega (arith, c.loop-at.invariant.below, c.loop-at.invariant.within)
-
-pub returns-then-text-at-eq10 : goal.returns-then-text-at-eq10
-returns-then-text-at-eq10 c =
-    scan-lf c.args.text.now c.args.end c.loop-at.invariant (omega arith) c.if-text-at-eq10.true
-
-pub loop-at-preserved : goal.loop-at-preserved
-loop-at-preserved c =
-    scan-more c.args.text.now c.args.end c.loop-at.invariant (omega arith) c.if-text-at-eq10.false
-
-pub returns : goal.returns
-returns c = scan-end c.args.text.now c.args.end c.loop-at.invariant (omega (arith, c.loop-at-test.false))
+pub returns-in-None : goal.returns-in-None
+returns-in-None c = start-none c.args.text.now c.args.end c.requires (search rules)

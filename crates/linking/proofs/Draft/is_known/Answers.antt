@@ -2,12 +2,11 @@
 use native.Mathlib.Omega.{arith}
 use mathlib.Core.Bool.{true, false}
 use mathlib.Core.Path.{refl}
-use Rattle.finding.proofs.Found.{labels-counted}
 use Rattle.linking.proofs.Uses.{label-known, switch-known}
 use Rattle.linking.proofs.Draft.is_known.Goals as goal
 
 pub label_place-requires : goal.label_place-requires
-label_place-requires c = labels-counted _ _ c.requires.holds
+label_place-requires c = record { most = c.args.self.now.bounded.labels_most }
 
 pub returns-in-Label : goal.returns-in-Label
 returns-in-Label c = rw c.in-Label.is (label-known c.args.self.now.text.now c.args.self.now.names.now _ _ true c.args.m refl c.label_place.ensures c.is_some.ensures)

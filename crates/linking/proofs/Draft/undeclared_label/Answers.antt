@@ -1,10 +1,6 @@
 -- `Draft::undeclared_label` meets its contract.
 use Rattle.linking.proofs.Undeclared.{labels-found}
-use Rattle.linking.proofs.Faults.{asking}
 use Rattle.linking.proofs.Draft.undeclared_label.Goals as goal
-
-pub code_fault-f-requires : goal.code_fault-f-requires
-code_fault-f-requires c = asking c.requires
 
 pub entries_fault-requires : goal.entries_fault-requires
 entries_fault-requires c = c.requires
