@@ -102,7 +102,7 @@ module _ (s c firsts w : List ℕ) where
         go (Some j) false z u = finds-more o (sym z)
 
   -- of a name that one macro alone has, that macro is the only one
-  pub hinted : {singles : List ℕ} → Singles s c firsts (length firsts) singles → (k : ℕ) → k < length firsts → eqb (get_or singles k 0) 1 ≡ true
+  pub hinted : {singles : List Bool} → Singles s c firsts (length firsts) singles → (k : ℕ) → k < length firsts → get_or singles k false ≡ true
       → {q : ℕ} → q ≡ get_or firsts k 0 → {r : Bool} → r ≡ bytes_equal w (bytes_at s c q) → r ≡ true → Finds s c firsts (length firsts) w (Some k)
   unfolding macros_in macro_in
   hinted h k l a {q} e {r} f t =

@@ -15,7 +15,7 @@ use Rattle.macro_code.specs.declared.changes.Changes.{Changes}
 use Rattle.macro_calls.specs.Calls.{change_faults, typed_in, Told, none_of, both_of}
 use Rattle.macro_calls.specs.FaultLaws.{body-faults, told_none, told-both}
 use Rattle.macro_calls.specs.TableLaws.{each_append, tab-next}
-use Rattle.macro_calls.specs.declared.Faults.{Faults}
+use Rattle.macro_code.specs.declared.faults.Faults.{Faults}
 
 -- of two rows the first of which has one more
 module _ {X : Type 0} (g : X → List met.Fault) where

@@ -9,11 +9,10 @@ use Rattle.macros.specs.Prepared.{piece_faults}
 use Rattle.macro_code.specs.Code.{high, is_call, call_in, body_in, macro_in, macros_in}
 use Rattle.macro_code.specs.Known.{Only}
 use Rattle.macro_code.specs.Places.{kind_cell, name_cell, typed_kind}
-use Rattle.statements.specs.Faults.{lower}
 use Rattle.statements.specs.StatementAt.{fault_of}
 use Rattle.statements.specs.Faults.{Fault}
-use Rattle.std.specs.Prelude.{None}
-use Rattle.macro_calls.specs.declared.Faults.{Faults}
+use Rattle.macro_code.specs.declared.faults.Faults.{Faults}
+pub use Rattle.macro_code.specs.CallFaults.{none_of, both_of}
 
 -- the macros of a name, from a number on
 abbrev pub named_from : List ℕ → List ℕ → List ℕ → ℕ → List ℕ → ℕ → List Macro
@@ -54,9 +53,3 @@ pub record Told (fs : List met.Fault) (r : Faults) : Type 0 where
 -- of two rows, that the first n numbers are the same
 pub record FirstsKept (n : ℕ) (xs ys : List ℕ) : Type 0 where
   pub same : (k : ℕ) → k < n → get_or ys k 0 ≡ get_or xs k 0
-
-abbrev pub none_of : Faults
-none_of = record { unknown = None; uneven = None }
-
-abbrev pub both_of : Faults → Faults → Faults
-both_of a b = record { unknown = lower a.unknown b.unknown; uneven = lower a.uneven b.uneven }

@@ -31,7 +31,7 @@ use Rattle.syntax.specs.Verdict.{lowest}
 use Rattle.macro_code.specs.Bounds.{widest}
 use Rattle.macro_calls.specs.Calls.{is_typed_call, change_faults, Told, none_of, both_of}
 use Rattle.macro_calls.specs.TableLaws.{each_append, drop-next, drop-end}
-use Rattle.macro_calls.specs.declared.Faults.{Faults}
+use Rattle.macro_code.specs.declared.faults.Faults.{Faults}
 
 -- changes one after the other
 

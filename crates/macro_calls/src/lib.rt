@@ -8,17 +8,10 @@ ghost use Rattle.macro_code.specs.Code.{high, bytes_at, change_in, body_in, macr
 ghost use Rattle.macro_code.specs.Known.{Singles};
 ghost use Rattle.macro_code.specs.Places.{half, name_cell, macros};
 ghost use Rattle.macro_code.specs.Bounds.{near, far};
-ghost use Rattle.macro_calls.specs.Calls.{is_typed_call, Finds, Counts, change_faults, typed_in, Told, both_of};
+ghost use Rattle.macro_calls.specs.Calls.{is_typed_call, Finds, Counts, change_faults, typed_in, Told};
 
-use macro_code::{Change, CodePlaces, Coded, Given, argument_cell};
-use statements::{Fault, lower};
-
-// "Each called macro in the list once? 64. Are there as many arguments as parameters? 65": the lowest place at fault of each.
-#[derive(Clone, Copy, Debug, PartialEq, Eq)]
-pub struct Faults {
-    pub unknown: Fault,
-    pub uneven: Fault,
-}
+use macro_code::{Change, CodePlaces, Coded, Faults, Given, argument_cell};
+use statements::Fault;
 
 // The list of macros of a text, by the first cell of each.
 #[derive(Clone, Copy, Debug, PartialEq, Eq)]
@@ -60,14 +53,14 @@ pub fn find_macro(list: &Listed, name: &[u8]) -> Option<usize>
     second.is_none().then_some(number)
 }
 
-// Of each macro, whether it is the only one of its name: 1, or otherwise 0.
-pub fn find_singles(list: &Listed, singles: &mut [u8])
+// Of each macro, whether it is the only one of its name.
+pub fn find_singles(list: &Listed, singles: &mut [bool])
     requires { length list.now.firsts.now ≤ length singles.old }
     ensures { Singles list.now.coded.text.now list.now.coded.code.now list.now.firsts.now (length list.now.firsts.now) singles.new }
 {
     for (k, first) in list.firsts.iter().enumerate() {
         let single = find_macro(list, list.coded.bytes_at(usize::from(*first)));
-        singles[k] = u8::from(single.is_some());
+        singles[k] = single.is_some();
     }
 }
 
@@ -82,7 +75,7 @@ fn hint_at(coded: &Coded, i: usize) -> usize
 #[derive(Clone, Copy, Debug, PartialEq, Eq)]
 pub struct Hinted<'a> {
     pub listed: Listed<'a>,
-    pub singles: &'a [u8],
+    pub singles: &'a [bool],
     pub hints: &'a [u16],
     ghost singles_are: { Singles listed.coded.text.now listed.coded.code.now listed.firsts.now (length listed.firsts.now) singles.now },
 }
@@ -95,7 +88,7 @@ impl<'a> Hinted<'a> {
         let Some(first) = self.listed.firsts.get(hint) else {
             return false
         };
-        self.singles.get(hint).copied().unwrap_or(0) == 1
+        self.singles.get(hint).copied().unwrap_or(false)
             && has_name(&self.listed.coded, *first, name)
     }
 
@@ -140,22 +133,6 @@ pub fn count_fault(coded: &Coded, i: usize, m: usize) -> Fault
     None
 }
 
-// No place is at fault, of neither question.
-const NO_FAULTS: Faults = Faults {
-    unknown: None,
-    uneven: None,
-};
-
-// The lowest places of each question. The two fields are joined here alone, so a trait is no plainer.
-fn both(a: Faults, b: Faults) -> Faults
-    ensures { result ≡ both_of a b }
-{
-    Faults {
-        unknown: lower(a.unknown, b.unknown),
-        uneven: lower(a.uneven, b.uneven),
-    }
-}
-
 // The macro of a call, for the next time, where there is room. What a hint says is asked again, so no promise of the others rests on it.
 fn keep_hint(hints: &mut [u16], at: usize, k: usize)
     ensures { hints.new ≡ cond (ltb at (length hints.old) && ltb k macros) (set hints.old at k) hints.old }
@@ -171,19 +148,19 @@ fn change_faults(list: &Listed, hints: &mut [u16], i: usize) -> Faults
     ensures { Told (change_faults (macros_in list.now.coded.text.now list.now.coded.code.now list.now.firsts.now (length list.now.firsts.now)) (change_in list.now.coded.text.now list.now.coded.code.now i)) result }
 {
     if !is_typed_call(&list.coded, i) {
-        return NO_FAULTS;
+        return Faults::NONE;
     }
     let at = i + CodePlaces::NAME;
     let Some(number) = find_macro(list, list.coded.bytes_at(at)) else {
         return Faults {
             unknown: Some(list.coded.high(at)),
-            uneven: None,
+            ..Faults::NONE
         };
     };
     keep_hint(hints, hint_at(&list.coded, i), number);
     Faults {
-        unknown: None,
         uneven: count_fault(&list.coded, i, list.first_cell(number)),
+        ..Faults::NONE
     }
 }
 
@@ -192,9 +169,9 @@ fn body_faults(list: &Listed, hints: &mut [u16], q: usize) -> Faults
     requires { q < near }
     ensures { Told (each (piece_faults (macros_in list.now.coded.text.now list.now.coded.code.now list.now.firsts.now (length list.now.firsts.now))) (body_in list.now.coded.text.now list.now.coded.code.now q)) result }
 {
-    let mut faults = NO_FAULTS;
+    let mut faults = Faults::NONE;
     for i in list.coded.changes(q) {
-        faults = both(faults, change_faults(list, hints, i));
+        faults = faults.and(change_faults(list, hints, i));
     }
     faults
 }
@@ -204,9 +181,9 @@ pub fn typed_faults(list: &Listed, hints: &mut [u16], section: usize) -> Faults
     requires { section < near }
     ensures { Told (typed_in list.now.coded.text.now list.now.coded.code.now list.now.firsts.now (length list.now.firsts.now) section) result }
 {
-    let mut faults = NO_FAULTS;
+    let mut faults = Faults::NONE;
     for first in list.firsts {
-        faults = both(faults, body_faults(list, hints, usize::from(*first)));
+        faults = faults.and(body_faults(list, hints, usize::from(*first)));
     }
-    both(faults, body_faults(list, hints, section))
+    faults.and(body_faults(list, hints, section))
 }

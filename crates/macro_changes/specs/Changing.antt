@@ -16,6 +16,8 @@ use Rattle.macros.specs.Pieces.Given.{typed, parameter, joined}
 use Rattle.macro_code.specs.Code.{high, paired, bytes_at, given_in, changes_in, behind_changes}
 use Rattle.macro_code.specs.Kinds.{parameter_of}
 use Rattle.macro_code.specs.Places as place
+use Rattle.macro_code.specs.declared.Change as coded
+use Rattle.macro_code.specs.declared.Change.TheVariants.{Value, Call, Nothing}
 use Rattle.macro_code.specs.declared.Given as held
 use Rattle.macro_code.specs.declared.Given.TheVariants.{Typed, Parameter, Joined}
 use Rattle.macro_elements.specs.ElementAt.{elements_from, argument_value, Lent, Held, FirstBefore}
@@ -82,6 +84,17 @@ kind_in (Joined k) = place.joined_kind
 
 abbrev pub number_in : held.Given → ℕ
 number_in g = unwrap_or (parameter_of g) 0
+
+-- the numbers that go into a change's cell: its kind, and the one beside it
+abbrev pub change_kind : coded.Change → ℕ
+change_kind (Value k) = place.value_kind
+change_kind (Call n) = place.call_kind
+change_kind Nothing = place.nothing_kind
+
+abbrev pub change_number : coded.Change → ℕ
+change_number (Value k) = k
+change_number (Call n) = n
+change_number Nothing = 0
 
 -- the number of the parameter with the bytes w, if there is one
 abbrev pub Found : List ℕ → List ℕ → Scope → List ℕ → Option ℕ → Type 0

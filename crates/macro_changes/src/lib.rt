@@ -8,9 +8,9 @@ ghost use Rattle.macros.specs.Elements.{is_text, is_listed};
 ghost use Rattle.macro_code.specs.Code.{paired, bytes_at};
 ghost use Rattle.macro_code.specs.Places.{half, kind_cell};
 ghost use Rattle.macro_elements.specs.ElementAt.{argument_value, Lent, Held};
-ghost use Rattle.macro_changes.specs.Changing.{first_in, count_in, shuts, ends_given, wrong_by, kind_in, number_in, value_in, none_passed, passed_over, passed_both, replaced, Named, EndsHere, Writing, Written, Found, Judging, Judged, Reading, GivenUp, ChangedBy, NextChange, ReadChanges, Starred, Worded};
+ghost use Rattle.macro_changes.specs.Changing.{first_in, count_in, shuts, ends_given, wrong_by, kind_in, number_in, change_kind, change_number, value_in, none_passed, passed_over, passed_both, replaced, Named, EndsHere, Writing, Written, Found, Judging, Judged, Reading, GivenUp, ChangedBy, NextChange, ReadChanges, Starred, Worded};
 
-use macro_code::{CodePlaces, Coded, Given, pair};
+use macro_code::{Change, CodePlaces, Coded, Given, pair};
 use macro_elements::{
     Element, Source, is_identifier, is_listed, is_mark, next_before, next_element,
 };
@@ -99,7 +99,7 @@ pub fn put(code: &mut [u32], i: usize, a: usize, b: usize)
 }
 
 // Two cells: of what is read its place, and what it is.
-pub fn put_two(code: &mut [u32], u: usize, a: usize, b: usize, kind: usize, number: usize)
+fn put_two(code: &mut [u32], u: usize, a: usize, b: usize, kind: usize, number: usize)
     requires room { u + kind_cell < length code.old }
     requires place { (a < half) × (b < half) }
     requires what { (kind < half) × (number < half) }
@@ -124,20 +124,35 @@ fn put_given(code: &mut [u32], u: usize, at: usize, size: usize, given: Given)
     put_two(code, u, at, size, kind, number);
 }
 
-// Whether the bytes of the cell `i` are the name.
-fn is_name(text: &[u8], code: &[u32], i: usize, name: &[u8]) -> bool
-    ensures { result ≡ bytes_equal name.now (bytes_at text.now code.now i) }
+// The same of a change, which begins and ends at two places.
+pub fn put_change(code: &mut [u32], u: usize, start: usize, stop: usize, change: Change)
+    requires room { u + kind_cell < length code.old }
+    requires place { (start < half) × (stop < half) }
+    requires what { change_number change < half }
+    ensures { code.new ≡ set (set code.old u (paired start stop)) (u + kind_cell) (paired (change_kind change) (change_number change)) }
 {
-    name == Coded { text, code }.bytes_at(i)
+    let (kind, number) = match change {
+        Change::Value(k) => (CodePlaces::VALUE, k),
+        Change::Call(n) => (CodePlaces::CALL, n),
+        Change::Nothing => (CodePlaces::NOTHING, 0),
+    };
+    put_two(code, u, start, stop, kind, number);
+}
+
+// Whether the bytes of the cell `i` are the name.
+fn is_name(coded: &Coded, i: usize, name: &[u8]) -> bool
+    ensures { result ≡ bytes_equal name.now (bytes_at coded.now.text.now coded.now.code.now i) }
+{
+    name == coded.bytes_at(i)
 }
 
 // The number of the parameter with these bytes.
-fn find_parameter(text: &[u8], code: &[u32], x: Scope, name: &[u8]) -> Option<usize>
-    requires { first_in x + count_in x ≤ length code.now }
-    ensures { Found text.now code.now x name.now result }
+fn find_parameter(coded: &Coded, x: Scope, name: &[u8]) -> Option<usize>
+    requires { first_in x + count_in x ≤ length coded.now.code.now }
+    ensures { Found coded.now.text.now coded.now.code.now x name.now result }
 {
     let p = x?;
-    (0..p.count).find(|k| is_name(text, code, p.first + *k, name))
+    (0..p.count).find(|k| is_name(coded, p.first + *k, name))
 }
 
 // What is typed as itself.
@@ -146,21 +161,21 @@ const TYPED: Answer = Answer {
     joins: true,
 };
 
-fn answer_of(text: &[u8], code: &[u32], x: Scope, t: Element) -> Answer
-    requires { Judging text.now code.now x t }
-    ensures { Judged text.now code.now x t result }
+fn answer_of(coded: &Coded, x: Scope, t: Element) -> Answer
+    requires { Judging coded.now.text.now coded.now.code.now x t }
+    ensures { Judged coded.now.text.now coded.now.code.now x t result }
 {
     if let Some(behind) = t.joined {
-        let k = find_parameter(text, code, x, &text[t.end + 1..behind]);
+        let k = find_parameter(coded, x, &coded.text[t.end + 1..behind]);
         return Answer {
             given: Given::Joined(k.unwrap_or(count_in(x))),
-            joins: is_identifier(text, t) & k.is_some(),
+            joins: is_identifier(coded.text, t) & k.is_some(),
         };
     }
     if !t.is(Sort::Word) {
         return TYPED;
     }
-    match find_parameter(text, code, x, &text[t.at..t.end]) {
+    match find_parameter(coded, x, &coded.text[t.at..t.end]) {
         Some(k) => Answer {
             given: Given::Parameter(k),
             joins: true,
@@ -199,7 +214,11 @@ fn read_given(source: &Source, code: &mut [u32], x: Scope, n: usize, u: usize) -
     let mut passed = Passed::nothing(n);
     let mut k: usize = 0;
     while let Some(t) = next_before(source, passed.next, |t| ends_given(x, t)) {
-        let a = answer_of(source.text, code, x, t);
+        let coded = Coded {
+            text: source.text,
+            code,
+        };
+        let a = answer_of(&coded, x, t);
         put_given(
             code,
             u + CodePlaces::GIVEN_SIZE * k,
@@ -271,11 +290,11 @@ fn write_call(
 {
     match fault {
         None => {
-            put_two(code, u, start, stop, CodePlaces::CALL, count - 1);
+            put_change(code, u, start, stop, Change::Call(count - 1));
             u + CodePlaces::NAME + CodePlaces::GIVEN_SIZE * count
         }
         Some(_) => {
-            put_two(code, u, start, stop, CodePlaces::NOTHING, 0);
+            put_change(code, u, start, stop, Change::Nothing);
             u + CodePlaces::SMALL_SIZE
         }
     }
@@ -333,7 +352,7 @@ fn read_word(text: &[u8], code: &mut [u32], x: Scope, t: Element, u: usize) -> S
     requires { Worded text.now code.old x t u }
     ensures { ChangedBy text.now code.old code.new x t u result }
 {
-    let a = answer_of(text, code, x, t);
+    let a = answer_of(&Coded { text, code }, x, t);
     let passed = Passed {
         next: t.next,
         fault: is_wrong(text, x, t, a.joins).then_some(t.at),
@@ -346,7 +365,7 @@ fn read_word(text: &[u8], code: &mut [u32], x: Scope, t: Element, u: usize) -> S
         };
     };
     let (start, stop) = replaced(t, a.given);
-    put_two(code, u, start, stop, CodePlaces::VALUE, k);
+    put_change(code, u, start, stop, Change::Value(k));
     Step {
         passed,
         used: u + CodePlaces::SMALL_SIZE,

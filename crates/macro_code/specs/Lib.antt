@@ -4,4 +4,5 @@ pub mod Known
 pub mod Bounds
 pub mod Kinds
 pub mod Changes
+pub mod CallFaults
 pub mod ChangeLaws

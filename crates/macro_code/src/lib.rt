@@ -9,8 +9,10 @@ ghost use Rattle.macro_code.specs.Kinds.{GivenAt, ChangeAt, parameter_of};
 ghost use Rattle.macro_code.specs.Places.{half, all_places};
 
 mod changes;
+mod faults;
 
 pub use changes::Changes;
+pub use faults::Faults;
 
 // "From level 1 to 16 at most".
 pub const LEVELS: usize = 16;
@@ -44,6 +46,7 @@ pub enum Change {
 }
 
 // The cells are lent memory, so a value of this type holds nothing, and kinds are numbers there; its constants are places of cells, as in specs/Places.antt.
+// The constants stand in a type: a use reads `CodePlaces::NAME`, and who passes the type on passes all; a module would read no plainer.
 #[derive(Clone, Copy, Debug, PartialEq, Eq)]
 pub struct CodePlaces {}
 

@@ -17,6 +17,8 @@ use macro_marks::byte_at;
 use scanner::{Sort, scan_text, word_end};
 
 // A text, and its copy with a star for each joining apostrophe.
+// The contracts ask `Lent` of it, in one clause with a place in the text: with the copy as a ghost field here, each would still have a clause for the
+// place.
 #[derive(Clone, Copy, Debug, PartialEq, Eq)]
 pub struct Source<'a> {
     pub text: &'a [u8],

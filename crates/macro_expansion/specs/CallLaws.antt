@@ -1,6 +1,7 @@
 -- What a call writes, by its macro: at fault, too deep, skipped, or entered.
+use Rattle.std.specs.Bool.{passes}
 use Rattle.std.specs.Option.{is_none, unwrap_or}
-use Rattle.std.specs.Prelude.{Option, Some, None, ◌≡◌, Bool, true, false, cond, ◌||◌, ℕ, zero, suc, ◌+◌, ◌-◌, ◌≤◌, ◌<◌, T, eqb, ltb, length, get_or, take, drop}
+use Rattle.std.specs.Prelude.{Option, Some, None, ◌≡◌, Bool, true, false, cond, ◌||◌, ℕ, zero, suc, ◌+◌, ◌-◌, ◌≤◌, ◌<◌, eqb, ltb, length, get_or, take, drop}
 use Rattle.std.proofs.Math.Path.{refl}
 use Rattle.std.proofs.Common.{sym, ap, ◌∙◌, true≢false, arith, le-leb, le-ltb, ltb-true}
 use Rattle.std.proofs.lemmas.Bool.{false≢true, lt-leb, not-false}
@@ -81,7 +82,7 @@ module _ (v r : Written) (o : List ℕ) (l : size_of v ≤ length o) (count : si
     over-same : is_over r ≡ (is_over v || ltb (length o) (size_of v + 0))
     over-same = over ∙ sym (ap (λ b. (is_over v) || b) (le-ltb (length o) (size_of v + 0) (omega arith)) ∙ or-false (is_over v))
 
-    pub wrote-faults : (fs : List Fault) → r.unknown ≡ lower v.unknown (fault_of (places_of 64 fs)) → r.uneven ≡ lower v.uneven (fault_of (places_of 65 fs))
+    pub wrote-faults : (fs : List Fault) → r.faults.unknown ≡ lower v.faults.unknown (fault_of (places_of 64 fs)) → r.faults.uneven ≡ lower v.faults.uneven (fault_of (places_of 65 fs))
         → Wrote (at_fault fs) v r o o
     wrote-faults fs e f =
         record {
@@ -100,11 +101,11 @@ over-size w e = go w.count e
     go None f = refl
     go (Some n) f = absurd (false≢true f)
 
-pub wrote-deep : (v r : Written) (o : List ℕ) → is_over r ≡ true → r.unknown ≡ v.unknown → r.uneven ≡ v.uneven → Wrote too_deep v r o o
+pub wrote-deep : (v r : Written) (o : List ℕ) → is_over r ≡ true → r.faults.unknown ≡ v.faults.unknown → r.faults.uneven ≡ v.faults.uneven → Wrote too_deep v r o o
 wrote-deep v r o e f g =
     record {
-      unknown = f ∙ lower-none-right v.unknown;
-      uneven = g ∙ lower-none-right v.uneven;
+      unknown = f ∙ lower-none-right v.faults.unknown;
+      uneven = g ∙ lower-none-right v.faults.uneven;
       over = e ∙ sym (or-true (is_over v));
       size = refl;
       within = λ z. absurd (true≢false (sym e ∙ z));
@@ -122,19 +123,15 @@ unfolding inner
 inner-expands ms zero env ps h = absurd (h refl)
 inner-expands ms (suc l) env ps h = let e : suc l - 1 ≡ l = omega arith in rw e
 
-pub is_T : (b : Bool) → b ≡ true → T b
-is_T true e = tt
-is_T false e = absurd (false≢true e)
-
 -- the heights of the macro with the number k
 module _ (s c f : List ℕ) (n : ℕ) (quiet loose : List ℕ) (h : Heights s c f n quiet loose) (k l : ℕ) (listed : k < n) (env : List (List ℕ)) where
   pub quiet-writes : l < levels → get_or quiet k 0 ≤ l → expand (macros_in s c f n) l env (body_in s c (get_or f k 0)) ≡ just []
   quiet-writes m e =
-      silent-writes (macros_in s c f n) l env (body_in s c (get_or f k 0)) (is_T _ (sym (h.quiet_is k l listed m) ∙ le-leb (get_or quiet k 0) l e))
+      silent-writes (macros_in s c f n) l env (body_in s c (get_or f k 0)) (passes _ (sym (h.quiet_is k l listed m) ∙ le-leb (get_or quiet k 0) l e))
 
   pub fixed-writes : l < levels → l < get_or loose k 0 → (expand (macros_in s c f n) l env (body_in s c (get_or f k 0))).faults ≡ []
   fixed-writes m e =
-      fixed-faults (macros_in s c f n) l env (body_in s c (get_or f k 0)) (is_T _ (not-false (fixed (macros_in s c f n) l (body_in s c (get_or f k 0))) (sym (h.loose_is k l listed m) ∙ lt-leb (get_or loose k 0) l e)))
+      fixed-faults (macros_in s c f n) l env (body_in s c (get_or f k 0)) (passes _ (not-false (fixed (macros_in s c f n) l (body_in s c (get_or f k 0))) (sym (h.loose_is k l listed m) ∙ lt-leb (get_or loose k 0) l e)))
 
 -- a name that has no room
 pub long-unknown : (s c f : List ℕ) (n : ℕ) (w o : List ℕ) → ShortNames s c f n → limit.item < length o → ltb (length o) (0 + length w) ≡ true

@@ -1,5 +1,5 @@
 -- A call by what is found of it.
-use Rattle.std.specs.Prelude.{Some, None, ◌≡◌, refl, true, ◌&&◌, List, [], ◌∷◌, map, ℕ, zero, suc, ◌+◌, ◌-◌, ◌≤◌, ◌<◌, eqb, leb, length, get_or}
+use Rattle.std.specs.Prelude.{Some, None, ◌≡◌, refl, Bool, true, ◌&&◌, List, [], ◌∷◌, map, ℕ, zero, suc, ◌+◌, ◌-◌, ◌≤◌, ◌<◌, eqb, leb, length, get_or}
 use Rattle.std.proofs.Common.{sym, ap, ◌∙◌, true≢false, arith, leb-true}
 use Rattle.std.proofs.Math.Bool.{false}
 use Rattle.std.proofs.lemmas.Option.{none-some, same_Some}
@@ -62,23 +62,23 @@ module _ (s c f : List ℕ) (n : ℕ) (calls : List ℕ) (left i : ℕ) (v : Wri
 
     -- its macro is not in the list once
     pub judge-unknown : eqb (length (called_by (macros_in s c f n) wanted)) 1 ≡ false → (r : Step) (u : Written) (p : ℕ) → r.state ≡ u → r.call ≡ None
-        → p ≡ high c (i + place.name_cell) → (size_of u ≡ size_of v) × (is_over u ≡ is_over v) × (u.unknown ≡ lower v.unknown (Some p)) × (u.uneven ≡ v.uneven)
+        → p ≡ high c (i + place.name_cell) → (size_of u ≡ size_of v) × (is_over u ≡ is_over v) × (u.faults.unknown ≡ lower v.faults.unknown (Some p)) × (u.faults.uneven ≡ v.faults.uneven)
         → Judged s c f n calls left i v r
     unfolding call_in lowest
     judge-unknown h r u p e z q k =
         judged-stay (record { bytes = []; faults = fault 64 p ∷ []; deep = false })
         (rw q (call-writes ∙ unknown-writes (macros_in s c f n) (inner (macros_in s c f n) left) (arguments_at s c calls left) (call_in s c i) (called_by (macros_in s c f n) wanted) h))
         r z
-        (λ o l. rw e (wrote-faults v u o l k.0 k.1 (fault 64 p ∷ []) k.2 (k.3 ∙ lower-none-right v.uneven)))
+        (λ o l. rw e (wrote-faults v u o l k.0 k.1 (fault 64 p ∷ []) k.2 (k.3 ∙ lower-none-right v.faults.uneven)))
 
-    module _ (quiet loose alone : List ℕ) (known : Known s c f n quiet loose alone) (most : left ≤ levels) (k m : ℕ) (only : Only s c f n wanted k) (cell : m ≡ get_or f k 0) (g : told.Fault)
+    module _ (quiet loose : List ℕ) (alone : List Bool) (known : Known s c f n quiet loose alone) (most : left ≤ levels) (k m : ℕ) (only : Only s c f n wanted k) (cell : m ≡ get_or f k 0) (g : told.Fault)
         (counts : g ≡ fault_of (places_of 65 (argument_faults (call_in s c i) (macro_in s c m)))) where
       found : called_by (macros_in s c f n) wanted ≡ macro_in s c m ∷ []
       found = only.only ∙ ap (λ j. macro_in s c j ∷ []) (sym cell)
 
       -- it has another count of parameters
       pub judge-uneven : is_at g ≡ true → (r : Step) (u : Written) → r.state ≡ u → r.call ≡ None
-          → (size_of u ≡ size_of v) × (is_over u ≡ is_over v) × (u.unknown ≡ v.unknown) × (u.uneven ≡ lower v.uneven g) → Judged s c f n calls left i v r
+          → (size_of u ≡ size_of v) × (is_over u ≡ is_over v) × (u.faults.unknown ≡ v.faults.unknown) × (u.faults.uneven ≡ lower v.faults.uneven g) → Judged s c f n calls left i v r
       judge-uneven b r u e z x =
           let fs = argument_faults (call_in s c i) (macro_in s c m) in
           let a = at_some g b in
@@ -88,8 +88,8 @@ module _ (s c f : List ℕ) (n : ℕ) (calls : List ℕ) (left i : ℕ) (v : Wri
           found (some-uneven fs a.0 (sym counts ∙ a.1)))
           r z
           (λ o l. rw e (wrote-faults v u o l x.0 x.1 fs
-          (x.2 ∙ lower-none-right v.unknown ∙ ap (λ ps. lower v.unknown (fault_of ps)) (sym (only-uneven (call_in s c i) (macro_in s c m))))
-          (x.3 ∙ ap (lower v.uneven) counts)))
+          (x.2 ∙ lower-none-right v.faults.unknown ∙ ap (λ ps. lower v.faults.unknown (fault_of ps)) (sym (only-uneven (call_in s c i) (macro_in s c m))))
+          (x.3 ∙ ap (lower v.faults.uneven) counts)))
 
       module _ (fine : is_at g ≡ false) where
         abbrev given : List (List ℕ)
@@ -104,7 +104,7 @@ module _ (s c f : List ℕ) (n : ℕ) (calls : List ℕ) (left i : ℕ) (v : Wri
 
         -- it is too deep
         pub judge-deep : left ≡ 0 → (r : Step) (u : Written) → r.state ≡ u → r.call ≡ None
-            → (is_over u ≡ true) × (u.unknown ≡ v.unknown) × (u.uneven ≡ v.uneven) → Judged s c f n calls left i v r
+            → (is_over u ≡ true) × (u.faults.unknown ≡ v.faults.unknown) × (u.faults.uneven ≡ v.faults.uneven) → Judged s c f n calls left i v r
         judge-deep y r u e z x =
             judged-stay too_deep (right ∙ inner-deep (macros_in s c f n) left given (body_in s c m) y) r z
             (λ o l. rw e (wrote-deep v u o x.0 x.1 x.2))

@@ -3,16 +3,13 @@ use Rattle.std.specs.Prelude.{Some, None, ◌≡◌, refl, true, false, List, []
 use Rattle.std.proofs.lemmas.Option.{none-some, same_Some}
 use Rattle.std.proofs.Math.Path.{sym, ap}
 use Rattle.std.proofs.Common.{◌∙◌, arith}
-use Prim.Native.Nat.{ℕ, ◌+◌, ◌-◌, ◌≤◌, ◌<◌}
+use Prim.Native.Nat.{ℕ, zero, suc, ◌+◌, ◌-◌, ◌≤◌, ◌<◌}
 use Rattle.std.proofs.Math.Decide.{dec_lt}
 use Rattle.std.proofs.Math.ListN.{get_or-eq_default}
 use Rattle.macros.specs.Expansion.{Writing, just, followed_by, piece_writes, walk}
 use Rattle.macros.specs.Pieces.{pieces_from}
 use Rattle.macros.specs.Pieces.Piece.{kept, value, called}
-use Rattle.macro_code.specs.Code.{high, low, is_value, is_call, call_in, change_in, changes_in, macros_in}
-use Rattle.macro_code.specs.ChangeLaws.{changes-turn, changes-done}
-use Rattle.macro_code.specs.Changes.{Gives}
-use Rattle.macro_code.specs.declared.changes.Changes.{Changes}
+use Rattle.macro_code.specs.Code.{high, low, is_value, is_call, call_in, change_in, changes_in, size_at, macros_in}
 use Rattle.macro_memory.specs.Memory.{entered_writes}
 use Rattle.macro_values.specs.declared.Written.{Written}
 use Rattle.macro_values.specs.WritingLaws.{wrote-both, wrote_none}
@@ -83,68 +80,72 @@ module _ (s c f : List ℕ) (n : ℕ) (calls : List ℕ) (left stop : ℕ) where
   abbrev kept_bytes : ℕ → ℕ → List ℕ
   kept_bytes place to = take (to - place) (drop place s)
 
-  rest-step : (place : ℕ) (old : Changes) → old.coded.code.now ≡ c → {i : ℕ} {new : Changes} → Gives old i new → rest_writes s c f n calls left place stop old.cell old.left
-      ≡ followed_by (just (kept_bytes place (high c i))) (followed_by (change_writes s c f n calls left i) (rest_writes s c f n calls left (low c i) stop new.cell new.left))
-  unfolding pieces_from change_in
-  rest-step place old code {i} {new} g =
-      ap (λ ds. walk (macros_in s c f n) (inner (macros_in s c f n) left) (arguments_at s c calls left) (pieces_from s place stop ds)) (changes-turn s c old code g)
-      ∙ walk_kept (macros_in s c f n) (inner (macros_in s c f n) left) (arguments_at s c calls left) place (kept_bytes place (high c i)) (change_in s c i).pieces
-      (pieces_from s (low c i) stop (changes_in s c new.cell new.left))
+  rest-next : (place i k : ℕ) → rest_writes s c f n calls left place stop i (suc k)
+      ≡ followed_by (just (kept_bytes place (high c i))) (followed_by (change_writes s c f n calls left i) (rest_writes s c f n calls left (low c i) stop (i + size_at c i) k))
+  unfolding changes_in pieces_from change_in
+  rest-next place i k =
+      walk_kept (macros_in s c f n) (inner (macros_in s c f n) left) (arguments_at s c calls left) place (kept_bytes place (high c i)) (change_in s c i).pieces
+      (pieces_from s (low c i) stop (changes_in s c (i + size_at c i) k))
 
-  pub rest-last : (place : ℕ) (old : Changes) → old.coded.code.now ≡ c → old.left ≡ 0 → rest_writes s c f n calls left place stop old.cell old.left ≡ just (kept_bytes place stop)
-  unfolding pieces_from piece_writes
-  rest-last place old code e =
-      ap (λ ds. walk (macros_in s c f n) (inner (macros_in s c f n) left) (arguments_at s c calls left) (pieces_from s place stop ds)) (changes-done s c old code e)
-      ∙ walk-one (macros_in s c f n) (inner (macros_in s c f n) left) (arguments_at s c calls left) (kept place (kept_bytes place stop))
+  rest-step : (place i k : ℕ) → 0 < k → rest_writes s c f n calls left place stop i k
+      ≡ followed_by (just (kept_bytes place (high c i))) (followed_by (change_writes s c f n calls left i) (rest_writes s c f n calls left (low c i) stop (i + size_at c i) (k - 1)))
+  rest-step place i zero l = absurd (omega arith)
+  rest-step place i (suc k) l = let e : suc k - 1 ≡ k = omega arith in rw e (rest-next place i k)
 
-  module _ (x u : Writing) (v w w' w'' : Written) (o q p r : List ℕ) (place : ℕ) (old : Changes) (code : old.coded.code.now ≡ c) (wrote : Wrote u v w o q)
-      (is : x ≡ followed_by u (rest_writes s c f n calls left place stop old.cell old.left)) where
+  pub rest-last : (place i k : ℕ) → k ≤ 0 → rest_writes s c f n calls left place stop i k ≡ just (kept_bytes place stop)
+  unfolding changes_in pieces_from piece_writes
+  rest-last place i zero l = walk-one (macros_in s c f n) (inner (macros_in s c f n) left) (arguments_at s c calls left) (kept place (kept_bytes place stop))
+  rest-last place i (suc k) l = absurd (omega arith)
+
+  module _ (x u : Writing) (v w w' w'' : Written) (o q p r : List ℕ) (place i k : ℕ) (wrote : Wrote u v w o q)
+      (is : x ≡ followed_by u (rest_writes s c f n calls left place stop i k)) where
     -- a change is passed
-    pub run-turn : (i : ℕ) (new : Changes) → Gives old i new → (place' : ℕ) → Wrote (just (kept_bytes place (high c i))) w w' q p → Wrote (change_writes s c f n calls left i) w' w'' p r
-        → place' ≡ low c i → (y : Writing) × Wrote y v w'' o r × (x ≡ followed_by y (rest_writes s c f n calls left place' stop new.cell new.left))
-    run-turn i new gives place' a b g =
+    pub run-turn : (place' i' : ℕ) → 0 < k → Wrote (just (kept_bytes place (high c i))) w w' q p → Wrote (change_writes s c f n calls left i) w' w'' p r
+        → place' ≡ low c i → i' ≡ size_at c i
+        → (y : Writing) × Wrote y v w'' o r × (x ≡ followed_by y (rest_writes s c f n calls left place' stop (i + i') (k - 1)))
+    run-turn place' i' l a b g h =
         let z = followed_by (just (kept_bytes place (high c i))) (change_writes s c f n calls left i) in
-        let t = rest_writes s c f n calls left (low c i) stop new.cell new.left in (
+        let t = rest_writes s c f n calls left (low c i) stop (i + size_at c i) (k - 1) in (
           followed_by u z,
           wrote-both u z v w w'' o q r wrote (wrote-both (just (kept_bytes place (high c i))) (change_writes s c f n calls left i) w w' w'' q p r a b),
-          rw g
+          rw (g, h)
               (is
-              ∙ ap (followed_by u) (rest-step place old code gives ∙ sym (followed-assoc (just (kept_bytes place (high c i))) (change_writes s c f n calls left i) t))
+              ∙ ap (followed_by u) (rest-step place i k l ∙ sym (followed-assoc (just (kept_bytes place (high c i))) (change_writes s c f n calls left i) t))
               ∙ sym (followed-assoc u z t)),
         )
 
     -- a call is to be entered
-    pub run-pauses : (i : ℕ) (new : Changes) → Gives old i new → (e : Paused) (b : Pause) (most : ℕ) → old.left ≤ most → Wrote (just (kept_bytes place (high c i))) w w' q p
-        → Wrote (just []) w' w'' p r → Enters s c f n calls left i b.body → i + 1 < length c → e.state ≡ w'' → e.call ≡ Some b → b.cell ≡ i → b.changes ≡ new
-        → Ran s c f n calls left stop most x v e o r
+    pub run-pauses : (e : Paused) (b : Pause) (most : ℕ) → k ≤ most → 0 < k → Wrote (just (kept_bytes place (high c i))) w w' q p → Wrote (just []) w' w'' p r
+        → Enters s c f n calls left i b.body → i + 1 < length c → e.state ≡ w'' → e.call ≡ Some b → b.cell ≡ i
+        → b.changes.cell ≡ i + size_at c i → b.changes.left ≡ k - 1 → b.changes.coded.code.now ≡ c → Ran s c f n calls left stop most x v e o r
     unfolding pause_writes
-    run-pauses i new gives e b most m a wait enters there st en ce ch =
+    run-pauses e b most m l a wait enters there st en ce next fewer code =
         let b₁ = just (kept_bytes place (high c i)) in
         let b₂ = followed_by u b₁ in
-        let t = rest_writes s c f n calls left (low c i) stop new.cell new.left in
+        let t = rest_writes s c f n calls left (low c i) stop (i + size_at c i) (k - 1) in
         let y = followed_by (entered_writes s c f n calls left i b.body) t in
-        let z : pause_writes s c f n calls left stop e.call ≡ y = rw (en, ce, ch) refl in
+        let z : pause_writes s c f n calls left stop e.call ≡ y = rw (en, ce, next, fewer) refl in
         record {
           behind = followed_by b₂ (just []);
           wrote = rw st (wrote-both b₂ (just []) v w' w'' o p r (wrote-both u b₁ v w w' o q p wrote a) wait);
           is = rw z
               (is
-              ∙ ap (followed_by u) (rest-step place old code gives ∙ ap (λ z. followed_by b₁ (followed_by z t)) enters.writes)
+              ∙ ap (followed_by u) (rest-step place i k l ∙ ap (λ z. followed_by b₁ (followed_by z t)) enters.writes)
               ∙ sym (followed-assoc u b₁ y)
               ∙ ap (λ z. followed_by z y) (sym (followed-none b₂)));
-          fewer = rw (en, ch) (omega (arith, m, gives.some));
+          fewer = rw en (omega (arith, m, l, fewer));
           enters = λ j g.
               rw (same_Some j b (sym g ∙ en))
               (record {
                 deeper = enters.deeper;
                 there = rw ce there;
                 body = enters.body;
-                code = rw ch (gives.code_stays ∙ code);
+                code = code;
               });
         }
 
     -- the body ends
-    pub run_ends : (e : Paused) (most : ℕ) → old.left ≡ 0 → Wrote (just (kept_bytes place stop)) w w' q p → e.state ≡ w' → e.call ≡ None → Ran s c f n calls left stop most x v e o p
+    pub run_ends : (e : Paused) (most : ℕ) → k ≤ 0 → Wrote (just (kept_bytes place stop)) w w' q p → e.state ≡ w' → e.call ≡ None → Ran s c f n calls left stop most x v e o p
     unfolding pause_writes
     run_ends e most l a st en =
         let b₁ = just (kept_bytes place stop) in
@@ -152,7 +153,7 @@ module _ (s c f : List ℕ) (n : ℕ) (calls : List ℕ) (left stop : ℕ) where
         record {
           behind = followed_by u b₁;
           wrote = rw st (wrote-both u b₁ v w w' o q p wrote a);
-          is = rw z (is ∙ ap (followed_by u) (rest-last place old code l) ∙ sym (followed-none (followed_by u b₁)));
+          is = rw z (is ∙ ap (followed_by u) (rest-last place i k l) ∙ sym (followed-none (followed_by u b₁)));
           fewer = rw en (omega arith);
           enters = λ j g. absurd (none-some j (sym en ∙ g));
         }

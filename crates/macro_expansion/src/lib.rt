@@ -15,16 +15,17 @@ ghost use Rattle.macro_expansion.specs.Expanding.{arguments_at, FitsList, Judged
 mod listing;
 
 pub use listing::Macros;
-use macro_code::{Change, Changes, CodePlaces, Coded, Given, LEVELS};
+use macro_code::{Change, Changes, CodePlaces, Coded, Faults, Given, LEVELS};
 pub use macro_memory::Level;
 use macro_memory::{Entered, Memory};
 use macro_values::{Around, Written};
-use statements::lower;
 
 // Room for a name, more than the 60 bytes that one may have.
 const NAME_ROOM: usize = 64;
 
 // A change that is passed; or a call that is to be entered, by the cell of its macro.
+// `Paused` has a `Pause` in the place of the cell. One struct with a type parameter would need a name for each of the two all the same, and a bound for
+// each of its derives.
 #[derive(Clone, Copy, Debug, PartialEq, Eq)]
 pub struct Step {
     pub state: Written,
@@ -115,18 +116,18 @@ fn meet_call(list: &Macros, memory: &Memory, at: Level, v: Written) -> Step
 {
     let Some(k) = called_macro(list, memory, at) else {
         let place = list.hinted.listed.coded.high(at.cell + CodePlaces::NAME);
-        return stay(Written {
-            unknown: lower(v.unknown, Some(place)),
-            ..v
-        });
+        return stay(v.and_faults(Faults {
+            unknown: Some(place),
+            ..Faults::NONE
+        }));
     };
     let body = list.hinted.listed.first_cell(k);
     let uneven = macro_calls::count_fault(&list.hinted.listed.coded, at.cell, body);
     if uneven.is_some() {
-        return stay(Written {
-            uneven: lower(v.uneven, uneven),
-            ..v
-        });
+        return stay(v.and_faults(Faults {
+            uneven,
+            ..Faults::NONE
+        }));
     }
     if at.left == 0 {
         return stay(Written { count: None, ..v });

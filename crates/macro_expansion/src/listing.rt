@@ -7,6 +7,7 @@ ghost use Rattle.macro_expansion.specs.Known.{Known};
 use macro_calls::Hinted;
 
 // A list of macros that was read, with the hints for calls; and of each macro its two heights.
+// Two rows of bytes, and not one of structs: they are filled while others are read (`Rows` of macro_preparing).
 #[derive(Clone, Copy, Debug, PartialEq, Eq)]
 pub struct Macros<'a> {
     pub hinted: Hinted<'a>,

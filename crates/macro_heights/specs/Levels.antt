@@ -49,7 +49,7 @@ Quiet s c firsts n row ps r = Measures quiet_at (silent_piece (macros_in s c fir
 abbrev pub Loose : List ℕ → List ℕ → List ℕ → ℕ → List ℕ → List Piece → ℕ → Type 0
 Loose s c firsts n row ps r = Measures loose_at (fixed_piece (macros_in s c firsts n)) s c firsts n row ps r
 
-pub record Walkable (s c firsts : List ℕ) (n : ℕ) (singles : List ℕ) (q : ℕ) : Type 0 where
+pub record Walkable (s c firsts : List ℕ) (n : ℕ) (singles : List Bool) (q : ℕ) : Type 0 where
   pub low : q < near
   pub singles_are : Singles s c firsts n singles
 
@@ -80,7 +80,7 @@ pub record Settled (row : List ℕ) (k height level : ℕ) (after : List ℕ) : 
 pub record Unset (n : ℕ) (row : List ℕ) : Type 0 where
   pub none : (k : ℕ) → k < n → get_or row k 0 ≡ levels
 
-pub record Settling (table : List ℕ → List ℕ → List ℕ → ℕ → ℕ → ℕ → Bool) (s c firsts : List ℕ) (n : ℕ) (singles row : List ℕ) (level : ℕ) : Type 0 where
+pub record Settling (table : List ℕ → List ℕ → List ℕ → ℕ → ℕ → ℕ → Bool) (s c firsts : List ℕ) (n : ℕ) (singles : List Bool) (row : List ℕ) (level : ℕ) : Type 0 where
   pub low : level < levels
   pub singles_are : Singles s c firsts n singles
   pub below : UpTo (table s c firsts n) n level row

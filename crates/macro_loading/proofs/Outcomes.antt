@@ -171,8 +171,8 @@ module _ {s c : List ℕ} (h : Rewritable s c) {p : Result ℕ Rejected} {o ls m
     made-ready : prepared s ≡ ready (take n o) (take n ls)
     made-ready = sym k.is ∙ ap (λ t. made t o ls) e
 
-    pub lent : {names : List ℕ} → length names ≡ limit.text → Lent (take n o) (take n ls) names c
-    lent l = record { short = (prepared-shape s (take n o) (take n ls) h.fit.short made-ready).short; lined = prepared-lined s (take n o) (take n ls) h.fit.short made-ready; names_room = l; long = h.fit.long }
+    pub lent : Lent (take n o) (take n ls) c
+    lent = record { short = (prepared-shape s (take n o) (take n ls) h.fit.short made-ready).short; lined = prepared-lined s (take n o) (take n ls) h.fit.short made-ready; long = h.fit.long }
 
     pub ready-leaves : {r : Loaded} {d : List ℕ} → Leaves (text_loads (take n o) (take n ls)) c r d → Leaves (loaded (prepared s)) c r d
     unfolding loaded

@@ -21,7 +21,7 @@ fn load_written(text: &[u8], table: &mut [u32]) -> Loaded
     let mut lines = [0u16; Machine::TEXT];
     let mut code = [0u32; CodePlaces::CELLS];
     let n = macro_preparing::prepare(text, &mut out, &mut lines, &mut code)?;
-    let names = &mut code[..Machine::TEXT];
+    let names = code.first_chunk_mut().unwrap();
     loading::load_lined(&out[..n], &lines[..n], names, table)
 }
 

@@ -19,7 +19,8 @@ use Rattle.syntax.specs.Items.{Sort, sort_of, same_sort, Item, a_word, begins, i
 use Rattle.syntax.specs.Items.Sort.{separator, word, colon, end, text, wrong}
 use Rattle.syntax.specs.Items.Mode.{outside, in_word}
 use Rattle.macro_marks.specs.ItemLaws.{byte-within}
-use Rattle.macro_marks.specs.Parts.{items_from, is_macros, begins_mark, Plain}
+use Rattle.macros.specs.Conditions.{is_macros}
+use Rattle.macro_marks.specs.Parts.{items_from, begins_mark, Plain}
 
 module _ (s : List ℕ) where
   abbrev found : List Item → Bool

@@ -17,7 +17,8 @@ use Rattle.macros.specs.Marks.{byte_at, has_macros}
 use Rattle.std.specs.Bool.{then_some}
 use Rattle.syntax.specs.Items.{same_sort}
 use Rattle.syntax.specs.Items.Sort.{wrong}
-use Rattle.macro_marks.specs.Parts.{items_from, is_macros, Plain, ItemAt, NextItem}
+use Rattle.macros.specs.Conditions.{is_macros}
+use Rattle.macro_marks.specs.Parts.{items_from, Plain, ItemAt, NextItem}
 use Rattle.macro_marks.specs.ItemLaws.{none_here, item-here}
 
 -- the next item, or none

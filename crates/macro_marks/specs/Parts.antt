@@ -5,6 +5,7 @@ use Rattle.lexer.specs.declared.Token.{Token}
 use Rattle.lexer.specs.Tokens.{chars_of, Stands, TokenAt}
 use Rattle.lists.specs.Lists.{any, among, bytes_equal}
 use Rattle.lists.specs.Quoted.{bytes}
+use Rattle.macros.specs.Conditions.{is_macros}
 use Rattle.macros.specs.Marks.{byte_at}
 use Rattle.scanner.specs.declared.Sort.{Sort}
 use Rattle.scanner.specs.Sorts.{sort_in}
@@ -15,13 +16,10 @@ use Rattle.syntax.specs.Scan.{word_length}
 use Rattle.macro_marks.specs.declared.ListPart.{ListPart}
 use Rattle.macro_marks.specs.declared.ListPart.TheVariants.{Before, First, AtList, After, Header, Body}
 
--- the items of a text from place n on
+-- the items of a text from place n on, each colon one of its own: in lexer's `items_from` a word has its colon with it. A line here and in `editions`,
+-- since the lowest crate that both name is syntax, which would pass it on to all above
 abbrev pub items_from : List ℕ → ℕ → List Item
 items_from s n = read outside n (drop n s)
-
--- a star or a round bracket outside texts and comments
-abbrev pub is_macros : List ℕ → Item → Bool
-is_macros s i = is wrong i && among (byte_at s i.at) (bytes "*()")
 
 -- a byte that may begin a text, a comment, or an item of macros
 abbrev pub begins_mark : ℕ → Bool

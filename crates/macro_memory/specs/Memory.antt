@@ -1,5 +1,5 @@
--- Calls that change nothing any more, in slots, each with the levels left around a call, or 0, the cell of its macro, and the cells of the calls around
--- it and of the call itself.
+-- Calls that change nothing any more, in slots, each with a number of a call, the levels left around it, or 0, the cell of its macro, and the cells of
+-- the calls around it and of the call itself.
 use Rattle.std.specs.Prelude.{◌≡◌, false, List, [], map, ℕ, ◌+◌, ◌-◌, ◌≤◌, ◌<◌, get_or}
 use Rattle.macros.specs.Expansion.{Writing, places_of, filled_in, expand, levels}
 use Rattle.macro_code.specs.Code.{call_in, body_in, macros_in, arguments_in}
@@ -16,15 +16,15 @@ use Rattle.macro_memory.specs.declared.Slot.{Slot}
 
 -- the slot at an index, and a free one past the end
 abbrev pub free_slot : Slot
-free_slot = record { left = 0; body = 0; calls = [] }
+free_slot = record { print = 0; left = 0; body = 0; calls = [] }
 
 abbrev pub slot_at : List Slot → ℕ → Slot
 slot_at slots k = get_or slots k free_slot
 
 -- written again behind v, it changes nothing
 pub record Absorbed (x : Writing) (v : Written) : Type 0 where
-  pub unknown : lower v.unknown (fault_of (places_of 64 x.faults)) ≡ v.unknown
-  pub uneven : lower v.uneven (fault_of (places_of 65 x.faults)) ≡ v.uneven
+  pub unknown : lower v.faults.unknown (fault_of (places_of 64 x.faults)) ≡ v.faults.unknown
+  pub uneven : lower v.faults.uneven (fault_of (places_of 65 x.faults)) ≡ v.faults.uneven
   pub shallow : is_over v ≡ false → x.deep ≡ false
   pub empty : is_over v ≡ false → x.bytes ≡ []
 

@@ -45,8 +45,8 @@ no_bytes (x ∷ w) p q e f = absurd (omega (arith, e, f))
 pub absorbed-after : (x : Writing) (v r : Written) (o p : List ℕ) → Wrote x v r o p → (is_over r ≡ false → size_of r ≡ size_of v) → Absorbed x r
 absorbed-after x v r o p h k =
     record {
-      unknown = fault-again v.unknown r.unknown (fault_of (places_of 64 x.faults)) h.unknown;
-      uneven = fault-again v.uneven r.uneven (fault_of (places_of 65 x.faults)) h.uneven;
+      unknown = fault-again v.faults.unknown r.faults.unknown (fault_of (places_of 64 x.faults)) h.unknown;
+      uneven = fault-again v.faults.uneven r.faults.uneven (fault_of (places_of 65 x.faults)) h.uneven;
       shallow = λ z. or_left x.deep (ltb (length o) (size_of v + length x.bytes)) false (sym (or_right (is_over v) (x.deep || ltb (length o) (size_of v + length x.bytes)) (is_over r) h.over z)) refl;
       empty = λ z. no_bytes x.bytes (size_of v) (size_of r) (h.within z).0 (k z);
     }
@@ -56,8 +56,8 @@ pub absorbed-stays : (x y : Writing) (v r : Written) (o p : List ℕ) → Absorb
 absorbed-stays x y v r o p a h =
     let over : is_over r ≡ false → is_over v ≡ false = λ z. or_left (is_over v) (y.deep || ltb (length o) (size_of v + length y.bytes)) (is_over r) h.over z in
     record {
-      unknown = fault-stays v.unknown r.unknown (fault_of (places_of 64 x.faults)) (fault_of (places_of 64 y.faults)) a.unknown h.unknown;
-      uneven = fault-stays v.uneven r.uneven (fault_of (places_of 65 x.faults)) (fault_of (places_of 65 y.faults)) a.uneven h.uneven;
+      unknown = fault-stays v.faults.unknown r.faults.unknown (fault_of (places_of 64 x.faults)) (fault_of (places_of 64 y.faults)) a.unknown h.unknown;
+      uneven = fault-stays v.faults.uneven r.faults.uneven (fault_of (places_of 65 x.faults)) (fault_of (places_of 65 y.faults)) a.uneven h.uneven;
       shallow = λ z. a.shallow (over z);
       empty = λ z. a.empty (over z);
     }

@@ -1,7 +1,9 @@
--- Arguments that are the same by their bytes, and a slot like a call.
-use Rattle.std.specs.Prelude.{Some, ◌≡◌, refl, Bool, true, false, List, [], ◌∷◌, ◌++◌, map, ℕ, zero, suc, ◌+◌, ◌-◌, ◌≤◌, ◌<◌, T, ltb, length, get_or, take, drop}
+-- Arguments that are the same by their bytes, a slot like a call, and a call that is found in a group of slots.
+use Rattle.std.specs.Bool.{passes}
+use Rattle.std.specs.Prelude.{Some, ◌≡◌, refl, true, false, List, [], ◌∷◌, ◌++◌, map, ℕ, zero, suc, ◌+◌, ◌-◌, ◌≤◌, ◌<◌, ltb, length, get_or, take, drop}
 use Rattle.std.proofs.Common.{sym, ap, ◌∙◌, arith, take-add, take_at, drop_at, length-take-le}
-use Rattle.std.proofs.lemmas.List.{drop-take}
+use Rattle.std.proofs.lemmas.List.{drop-take, get_or-drop, get_or-take, length-take}
+use Rattle.std.proofs.Math.Decide.{dec_lt}
 use Rattle.std.proofs.Math.Seq.{take-take}
 use Rattle.layout.specs.Cells.{tab}
 use Rattle.lists.specs.Lists.{bytes_equal}
@@ -12,7 +14,7 @@ use Rattle.macro_code.specs.Code.{given_in, call_in, body_in, macros_in, argumen
 use Rattle.macro_values.specs.declared.Written.{Written}
 use Rattle.macro_values.specs.WritingLaws.{wrote-more, some-within, some-size}
 use Rattle.macro_values.specs.Wrote.{is_over, size_of, Wrote}
-use Rattle.macro_memory.specs.Memory.{Like, Alike}
+use Rattle.macro_memory.specs.Memory.{free_slot, slot_at, Like, Found, Alike}
 use Rattle.macro_memory.specs.MemoryLaws.{or_left}
 use Rattle.macro_memory.specs.declared.Entered.{Entered}
 use Rattle.macro_memory.specs.declared.Slot.{Slot}
@@ -21,10 +23,6 @@ use Rattle.macro_memory.specs.declared.Slot.{Slot}
 halves : (a b z : List ℕ) → length z ≡ length a → a ++ b ≡ z ++ z → a ≡ b
 halves a b z e f =
     sym (take_at a b (length a) refl) ∙ ap (take (length a)) f ∙ take_at z z (length a) e ∙ sym (drop_at z z (length a) e) ∙ sym (ap (drop (length a)) f) ∙ drop_at a b (length a) refl
-
-is_T : (b : Bool) → true ≡ b → T b
-is_T true e = tt
-is_T false e = absurd (let z : ◌≡◌ {A = ℕ} 0 1 = cc in omega arith)
 
 pub values_same : (a b o q p x y : List ℕ) (v w u : Written) → size_of v ≡ 0 → Wrote (just a) v w o q → Wrote (just b) w u q p → is_over u ≡ false
     → x ≡ take (size_of w) p → y ≡ take (size_of u - size_of w) (drop (size_of w) p) → true ≡ bytes_equal x y → a ≡ b
@@ -36,7 +34,7 @@ values_same a b o q p x y v w u none h k within e f same =
     let i : take (size_of v) o ≡ [] = ap (λ j. take j o) none in
     let t : take (size_of u) p ≡ a ++ b = both.1 ∙ ap (λ l. l ++ (a ++ b)) i in
     let r : x ++ y ≡ a ++ b = rw (e, f) (sym (take-add (size_of w) (size_of u - size_of w) p) ∙ ap (λ j. take j p) (sym m) ∙ t) in
-    let g : x ≡ y = same_bytes-eq x y (is_T (bytes_equal x y) same) in
+    let g : x ≡ y = same_bytes-eq x y (passes (bytes_equal x y) (sym same)) in
     let l : length x ≡ length a = ap length e ∙ length-take-le (size_of w) p (omega (arith, h.most, h.size, k.size)) ∙ n in
     halves a b x l (sym r ∙ ap (λ j. x ++ j) (sym g))
 
@@ -89,3 +87,21 @@ like s c calls others at x i a b o some most e same =
       some = λ z. omega (arith, z, a, some);
       writes_are = λ f n. rw (a, b, o, p) (rw e at (ap (λ env. expand (macros_in s c f n) (at.left - 1) env (body_in s c at.body)) (sym same)));
     }
+
+-- a slot of a group like a call
+pub found : (s c calls : List ℕ) (at : Entered) (slots : List Slot) (first n k : ℕ) → k < length (take n (drop first slots)) → Like s c calls at (get_or (take n (drop first slots)) k free_slot)
+    → Found s c slots calls at.left at.cell at.body
+found s c calls at slots first n k l e =
+    let p : get_or (take n (drop first slots)) k free_slot ≡ slot_at slots (first + k) = get_or-take n (drop first slots) k free_slot (omega (arith, l, length-take n (drop first slots))) ∙ get_or-drop first slots k free_slot in
+    let h : Like s c calls at (slot_at slots (first + k)) = rw p at e in
+    record { changes_nothing = λ f n v r. rw (h.writes_are f n) at (r.absorbed (first + k) h.some) }
+
+-- one number more
+pub next-too : (g h : ℕ → List ℕ) (k : ℕ) → ((j : ℕ) → j < k → g j ≡ h j) → g k ≡ h k → (j : ℕ) → j < k + 1 → g j ≡ h j
+next-too g h k same e j l = go (dec_lt j k)
+  where
+    go : Dec (j < k) → g j ≡ h j
+    go (yes y) = same j y
+    go (no y) =
+        let z : j ≡ k = omega (arith, l, y) in
+        rw z e

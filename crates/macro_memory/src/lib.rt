@@ -25,23 +25,23 @@ const SHARE: usize = 4096;
 // Room for what two arguments stand for.
 const ROOM: usize = 128;
 
-// A call that is remembered: the levels left around it, 0 in a slot that is free; the cell of its macro; and the calls around it with itself.
+// A call that is remembered: a number by its macro, levels and arguments; the levels left around it, 0 in a slot that is free; the cell of its macro;
+// and the calls around it with itself.
+// 0 and no `Option<Slot>`: a call has a level at least, so a free slot is like none, with no test of its own.
 #[derive(Clone, Copy, Debug, PartialEq, Eq)]
 pub struct Slot {
+    pub print: usize,
     pub left: usize,
     pub body: usize,
     pub calls: [u32; LEVELS],
 }
 
-// The cells of the nested calls, and the calls that are remembered; for each group which of its slots is taken next, and for each slot a number by
-// its macro, levels and arguments. These numbers stand apart from the slots, since a look goes over them alone in most cases: eight words in place of
-// slots of 80 bytes each.
+// The cells of the nested calls; the calls that are remembered; and for each group which of its slots is taken next.
 #[derive(Drop)]
 pub struct Memory {
     pub calls: [u32; LEVELS],
     pub slots: [Slot; SLOTS],
     pub turns: [usize; GROUPS],
-    pub prints: [usize; SLOTS],
 }
 
 // Two calls, or an argument of each.
@@ -107,9 +107,9 @@ fn same_arguments(here: &Around, others: &[u32], pair: Pair) -> bool
 fn mix(bytes: &[u8], first: usize) -> usize
     ensures { result < half }
 {
-    let mut h = first % 65536;
+    let mut h = first % CodePlaces::HALF as usize;
     for b in bytes {
-        h = (h + usize::from(*b)) * 40503 % 65536;
+        h = (h + usize::from(*b)) * 40503 % CodePlaces::HALF as usize;
     }
     h
 }
@@ -126,7 +126,7 @@ fn print_of(here: &Around, at: Entered) -> usize
         w = here.write_given(argument_cell(at.cell, k), &mut row, w);
         n = w.count.unwrap_or(n);
     }
-    mix(&row[..n], at.body * 16 + here.depth)
+    mix(&row[..n], at.body * LEVELS + here.depth)
 }
 
 impl Slot {
@@ -152,6 +152,7 @@ impl Memory {
         ensures { (s c f : List ℕ) (n : ℕ) (v : Written) → Remembers s c f n result.slots v }
     {
         let free = Slot {
+            print: 0,
             left: 0,
             body: 0,
             calls: [0; LEVELS],
@@ -160,7 +161,6 @@ impl Memory {
             calls: [0; LEVELS],
             slots: [free; SLOTS],
             turns: [0; GROUPS],
-            prints: [0; SLOTS],
         }
     }
 
@@ -183,7 +183,9 @@ impl Memory {
     {
         let print = print_of(here, at);
         let first = GROUP * (print / SHARE);
-        (first..first + GROUP).any(|k| self.prints[k] == print && self.slots[k].is_like(here, at))
+        self.slots[first..first + GROUP]
+            .iter()
+            .any(|slot| slot.print == print && slot.is_like(here, at))
     }
 
     // Whether a call within the nested calls is remembered. A no is always right.
@@ -201,14 +203,13 @@ impl Memory {
     {
         let group = print / SHARE;
         let turn = self.turns[group] % GROUP;
-        let k = GROUP * group + turn;
-        self.slots[k] = Slot {
+        self.slots[GROUP * group + turn] = Slot {
+            print,
             left: at.left,
             body: at.body,
             calls: self.calls,
         };
         self.turns[group] = turn + 1;
-        self.prints[k] = print;
     }
 
     // The innermost of the nested calls, by the body of its macro.

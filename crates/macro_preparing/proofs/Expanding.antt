@@ -97,7 +97,7 @@ pub whole_asked : {s : List ℕ} (v : told.Verdict) → verdict_of v ≡ first_n
 whole_asked {s} v w f =
     record { at = f.at; is = either-asked s ∙ ap (λ (q : Verdict). then q (first_no (macro_questions s))) (sym w ∙ f.is); line_is = f.line_is }
 
-module _ {s c f quiet loose alone : List ℕ} {r : Reading} (y : RowsRead s c f quiet loose alone r) {w : WrittenOut} {o p m : List ℕ}
+module _ {s c f quiet loose : List ℕ} {alone : List Bool} {r : Reading} (y : RowsRead s c f quiet loose alone r) {w : WrittenOut} {o p m : List ℕ}
     (z : Sectioned s c (firsts_of f r) (length (firsts_of f r)) r.listing.section w o p m) (room : length o ≡ limit.text) where
   wrote-there : Wrote (expand (listed s) levels [] (section_of s)) none w.state o p
   wrote-there = rw (y.macros_are, y.section_is) at z.wrote
@@ -111,7 +111,7 @@ module _ {s c f quiet loose alone : List ℕ} {r : Reading} (y : RowsRead s c f 
   long-there = rw (y.macros_are, y.section_is, room) at z.long
 
   all_asked : (v : told.Verdict)
-      → verdict_of v ≡ then (decided 64 (lower r.listing.fault (lower r.typed.unknown w.state.unknown))) (then (decided 65 (lower r.typed.uneven w.state.uneven)) (decided 66 w.long))
+      → verdict_of v ≡ then (decided 64 (lower r.listing.fault (lower r.typed.unknown w.state.faults.unknown))) (then (decided 65 (lower r.typed.uneven w.state.faults.uneven)) (decided 66 w.long))
       → verdict_of v ≡ first_no (macro_questions s)
   all_asked v e = e ∙ asked s y.form_is y.typed_is wrote-there long-there
 
@@ -132,7 +132,7 @@ module _ {s c f quiet loose alone : List ℕ} {r : Reading} (y : RowsRead s c f 
         ∙ or_from (expand (listed s) levels [] (section_of s)).deep (ltb (length o) (0 + length (expand (listed s) levels [] (section_of s)).bytes))
         (none_deep q) (le-ltb (length o) (0 + length (expand (listed s) levels [] (section_of s)).bytes) (omega (arith, l, room)))
 
-    module _ (v : told.Verdict) (e : verdict_of v ≡ then (decided 64 (lower r.listing.fault (lower r.typed.unknown w.state.unknown))) (then (decided 65 (lower r.typed.uneven w.state.uneven)) (decided 66 w.long))) where
+    module _ (v : told.Verdict) (e : verdict_of v ≡ then (decided 64 (lower r.listing.fault (lower r.typed.unknown w.state.faults.unknown))) (then (decided 65 (lower r.typed.uneven w.state.faults.uneven)) (decided 66 w.long))) where
       pub expands : v ≡ Ok tt → Expanded s (size_of w.state) p m
       expands q =
           let y : first_no (macro_questions s) ≡ yes = sym (all_asked v e) ∙ ap verdict_of q in

@@ -1,5 +1,6 @@
 -- The list of macros and the section in rows.
 use mathlib.Core.Path.{◌≡◌, sym, ap, ◌∙◌}
+use mathlib.Core.Bool.{Bool}
 use mathlib.Core.List.{List, [], ◌∷◌, ◌++◌}
 use Prim.Native.Nat.{ℕ, ◌≤◌}
 use native.Mathlib.Omega.{arith}
@@ -17,7 +18,7 @@ use Rattle.macros.specs.Prepared.{listed, section_of}
 use Rattle.macros.proofs.ShortLaws.{name-short}
 use Rattle.macro_calls.specs.Calls.{typed_in, Told}
 use Rattle.macro_calls.specs.KeptLaws.{macros-kept}
-use Rattle.macro_calls.specs.declared.Faults.{Faults}
+use Rattle.macro_code.specs.declared.faults.Faults.{Faults}
 use Rattle.macro_code.specs.Code.{macro_in, macros_in, body_in}
 use Rattle.macro_code.specs.Known.{Heights, Singles}
 use Rattle.macro_code.specs.Places as place
@@ -57,7 +58,7 @@ module _ {s c f : List ℕ} {r : Listing} (y : MacrosRead s c f r) (l : place.ma
   unfolding body_in
   section-now = λ i. pieces_from s (y.cells.starts i) (y.cells.stops i) (y.cells.changes_are i)
 
-  pub rows-read : {quiet loose alone : List ℕ} {t : Faults} → length s ≤ limit.text → length c ≡ place.cells → first_no (whole_questions s) ≡ yes
+  pub rows-read : {quiet loose : List ℕ} {alone : List Bool} {t : Faults} → length s ≤ limit.text → length c ≡ place.cells → first_no (whole_questions s) ≡ yes
       → Told (typed_in s c own (length own) r.section) t → Heights s c own (length own) quiet loose → Singles s c own (length own) alone
       → RowsRead s c f quiet loose alone (record { listing = r; typed = t })
   rows-read {quiet} {loose} {alone} {t} short size whole told heights singles =

@@ -13,7 +13,7 @@ use Rattle.macros.specs.Macros.{Macro, macro_list_faults, section}
 use Rattle.macros.specs.Pieces.{Piece, is_stray, form_faults}
 use Rattle.macros.specs.Prepared.{piece_faults, writes, deep_places, all_faults, listed, section_of, places_out, macro_questions}
 use Rattle.macro_calls.specs.Calls.{Told}
-use Rattle.macro_calls.specs.declared.Faults.{Faults}
+use Rattle.macro_code.specs.declared.faults.Faults.{Faults}
 use Rattle.macro_section.specs.Origins.{none}
 use Rattle.macro_values.specs.Wrote.{Wrote}
 use Rattle.macro_values.specs.declared.Written.{Written}
@@ -54,7 +54,7 @@ module _ (s : List ℕ) {form : Fault} (form_is : form ≡ fault_of (macro_list_
       ∙ ap fault_of (places-both number typed_faults (expand (listed s) levels [] (section_of s)).faults)
       ∙ fault-both (places_of number typed_faults) (places_of number (expand (listed s) levels [] (section_of s)).faults)
 
-  unknown_is : lower form (lower t.unknown w.unknown)
+  unknown_is : lower form (lower t.unknown w.faults.unknown)
       ≡ fault_of (macro_list_faults (elements s) ++ form_faults (is_stray []) [] (section (elements s)) ++ places_of 64 (all_faults (listed s) (section_of s)))
   unknown_is =
       let l = macro_list_faults (elements s) in
@@ -63,11 +63,11 @@ module _ (s : List ℕ) {form : Fault} (form_is : form ≡ fault_of (macro_list_
       sym (fault-both (l ++ f) a ∙ ap (λ x. lower x (fault_of a)) (sym form_is)
       ∙ ap (lower form) (faults-both 64 ∙ (λ j. lower (sym typed.unknown_is j) (sym wrote.unknown j))))
 
-  uneven_is : lower t.uneven w.uneven ≡ fault_of (places_of 65 (all_faults (listed s) (section_of s)))
+  uneven_is : lower t.uneven w.faults.uneven ≡ fault_of (places_of 65 (all_faults (listed s) (section_of s)))
   uneven_is = sym (faults-both 65 ∙ (λ j. lower (sym typed.uneven_is j) (sym wrote.uneven j)))
 
   -- "64 .. 65 .. 66"
-  pub asked : then (decided 64 (lower form (lower t.unknown w.unknown))) (then (decided 65 (lower t.uneven w.uneven)) (decided 66 long))
+  pub asked : then (decided 64 (lower form (lower t.unknown w.faults.unknown))) (then (decided 65 (lower t.uneven w.faults.uneven)) (decided 66 long))
       ≡ first_no (macro_questions s)
   unfolding macro_questions first_no
   asked =

@@ -1,6 +1,6 @@
 -- What the functions that fill the rows ask and promise.
 use Rattle.std.specs.Result.{MatchResult}
-use Rattle.std.specs.Prelude.{Result, ◌≡◌, List, [], ◌++◌, ℕ, ◌+◌, ◌≤◌, ◌<◌, length, take, Ok}
+use Rattle.std.specs.Prelude.{Result, ◌≡◌, Bool, List, [], ◌++◌, ℕ, ◌+◌, ◌≤◌, ◌<◌, length, take, Ok}
 use Rattle.language.specs.Limits as limit
 use Rattle.lists.specs.Lists.{each}
 use Rattle.macros.specs.Elements.{elements}
@@ -34,7 +34,7 @@ pub record Readable (s m c : List ℕ) : Type 0 where
 abbrev pub firsts_of : List ℕ → Reading → List ℕ
 firsts_of f r = take r.listing.count f
 
-pub record RowsRead (s c f quiet loose alone : List ℕ) (r : Reading) : Type 0 where
+pub record RowsRead (s c f quiet loose : List ℕ) (alone : List Bool) (r : Reading) : Type 0 where
   pub few : r.listing.count ≤ place.macros
   pub known : Known s c (firsts_of f r) (length (firsts_of f r)) quiet loose alone
   pub low : r.listing.section < place.half

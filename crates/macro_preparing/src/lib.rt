@@ -8,8 +8,8 @@ ghost use Rattle.macro_preparing.specs.Preparing.{Preparable, Prepares};
 ghost use Rattle.macro_preparing.specs.Rows.{Readable, RowsRead, Expands, Answered};
 
 use language::Machine;
-use macro_calls::{Faults, Hinted, Listed, find_singles, typed_faults};
-use macro_code::{CodePlaces, Coded};
+use macro_calls::{Hinted, Listed, find_singles, typed_faults};
+use macro_code::{CodePlaces, Coded, Faults};
 use macro_elements::Source;
 use macro_heights::find_heights;
 use macro_lines::{find_lines, line_of};
@@ -32,7 +32,7 @@ struct Rows {
     hints: [u16; HINTS],
     quiet: [u8; CodePlaces::MACROS],
     loose: [u8; CodePlaces::MACROS],
-    singles: [u8; CodePlaces::MACROS],
+    singles: [bool; CodePlaces::MACROS],
 }
 
 // The list of macros and the section that were read, and the lowest places at fault of the calls as typed.
@@ -44,13 +44,11 @@ struct Reading {
 
 // Questions 64, 65 and 66.
 fn ask_macros(form: Fault, typed: Faults, w: WrittenOut) -> Verdict
-    ensures { verdict_of result ≡ then (decided 64 (lower form (lower typed.unknown w.state.unknown))) (then (decided 65 (lower typed.uneven w.state.uneven)) (decided 66 w.long)) }
+    ensures { verdict_of result ≡ then (decided 64 (lower form (lower typed.unknown w.state.faults.unknown))) (then (decided 65 (lower typed.uneven w.state.faults.uneven)) (decided 66 w.long)) }
 {
-    let sixty_four = decide(
-        Question::Macros,
-        lower(form, lower(typed.unknown, w.state.unknown)),
-    );
-    let sixty_five = decide(Question::Call, lower(typed.uneven, w.state.uneven));
+    let calls = typed.and(w.state.faults);
+    let sixty_four = decide(Question::Macros, lower(form, calls.unknown));
+    let sixty_five = decide(Question::Call, calls.uneven);
     let sixty_six = decide(Question::Expansion, w.long);
     first_of(sixty_four, first_of(sixty_five, sixty_six))
 }
@@ -139,7 +137,7 @@ pub fn prepare(
         hints: [0u16; HINTS],
         quiet: [0u8; CodePlaces::MACROS],
         loose: [0u8; CodePlaces::MACROS],
-        singles: [0u8; CodePlaces::MACROS],
+        singles: [false; CodePlaces::MACROS],
     };
     let count = expand(text, code, &mut rows, out, lines)?;
     find_lines(text, &mut lines[..count]);

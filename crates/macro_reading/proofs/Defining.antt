@@ -222,27 +222,46 @@ module _ {s m c : List ℕ} {n q : ℕ} (p : Definable s m c n q) where
         steps true e = let l : 0 < h.words = ltb-true 0 h.words e in omega (arith, forward, g.heads.from, after_open)
         steps false e = omega (arith, forward, g.heads.from, after_open)
 
-        abbrev whole : Definition
-        whole = record { passed = record { next = r.passed.next; fault = lower h.passed.fault (lower (fault_of (cond (not (named && r.closed)) (b.at ∷ []) [])) r.passed.fault) }; named = named; used = r.used }
+        abbrev whole_by : Bool → Definition
+        whole_by z = record { passed = record { next = r.passed.next; fault = lower h.passed.fault (lower (fault_of (cond (not (named && r.closed)) (b.at ∷ []) [])) r.passed.fault) }; used = then_some z r.used }
 
-        defining-whole : Defining s e n q whole
-        defining-whole =
+        macro-by : (z : Bool) → named ≡ z → macro_of s (stretch us) ≡ cond z (macro_in s e q ∷ []) []
+        macro-by z w = macro-done ∙ ap (λ (a : Bool). cond a (macro_in s e q ∷ []) []) w
+
+        defining_by : (z : Bool) → named ≡ z → Defining s e n q (whole_by z)
+        defining_by true w =
+            let l : 0 < h.words = ltb-true 0 h.words w in
             record {
-              macro_is = macro-done;
+              macro_is = macro-by true w;
               fault_is = faults-done;
               rest = y.rest ∙ ap (drop 1) (sym op.rest_is);
-              from_here = steps named refl;
-              closed_more = λ w c. let x : 0 < h.words = ltb-true 0 h.words w in more-there x c;
+              from_here = steps true w;
+              closed_more = λ o c. more-there l c;
               most = y.most;
-              paid = λ w. let l : 0 < h.words = ltb-true 0 h.words w in omega (arith, y.room, p.paid, forward, g.heads.from, extra r.closed);
-              low = omega (arith, y.low);
-              used_is = y.used_is;
+              paid = λ u o. let x : r.used ≡ u = same_Some r.used u o in omega (arith, x, l, y.room, p.paid, forward, g.heads.from, extra r.closed);
+              low = λ u o. let x : r.used ≡ u = same_Some r.used u o in omega (arith, x, y.low);
+              used_is = λ u o. y.used_is ∙ same_Some r.used u o;
             }
+        defining_by false w =
+            record {
+              macro_is = macro-by false w;
+              fault_is = faults-done;
+              rest = y.rest ∙ ap (drop 1) (sym op.rest_is);
+              from_here = steps false w;
+              closed_more = λ o c. absurd (false≢true o);
+              most = y.most;
+              paid = λ u o. absurd (none-some u o);
+              low = λ u o. absurd (none-some u o);
+              used_is = λ u o. absurd (none-some u o);
+            }
+
+        abbrev whole : Definition
+        whole = whole_by named
 
         pub definition-done : Defined s c e n q (Some whole)
         definition-done =
             record {
               kept = kept_on g.heads.kept (kept-below y.kept (omega arith)) (le_refl q);
               opened_is = sym (any_found is_open (stretch us) ∙ ap filled op.body_is);
-              defining = λ x z. subst (λ (u : Definition). Defining s e n q u) (same_Some whole x z) defining-whole;
+              defining = λ x z. subst (λ (u : Definition). Defining s e n q u) (same_Some whole x z) (defining_by named refl);
             }

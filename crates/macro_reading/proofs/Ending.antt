@@ -32,7 +32,8 @@ use Rattle.macro_elements.specs.ElementAt.{joined_at, elements_from, argument_va
 use Rattle.macro_elements.specs.declared.Element.{Element}
 use Rattle.macro_reading.specs.Definitions.{stretch}
 use Rattle.macro_reading.specs.Headers.{placed, heading, first_word, any_there, HeaderRead}
-use Rattle.macro_reading.specs.Sections.{outer, outer_faults, Firsts, FirstRead, Tailed, tail_faults, TailRead}
+use Rattle.macros.specs.Conditions.{outer}
+use Rattle.macro_reading.specs.Sections.{outer_faults, Firsts, FirstRead, Tailed, tail_faults, TailRead}
 use Rattle.macro_reading.specs.declared.Header.{Header}
 use Rattle.macro_reading.proofs.Heading.{whole-from}
 use Rattle.macro_reading.proofs.Stretching.{opened, Unopened, unopened, until-stretch, from-stretch, any_found}

@@ -2,7 +2,7 @@
 use mathlib.Core.Path.{◌≡◌, refl, ap, sym, ◌∙◌}
 use mathlib.Core.Bool.{Bool, true, false, cond, ◌||◌, false≢true, or-true}
 use mathlib.Core.List.{List, [], ◌∷◌, ◌++◌, append_assoc, append-nil}
-use Rattle.std.specs.Prelude.{Option, Some}
+use Rattle.std.specs.Prelude.{Option, Some, unwrap_or}
 use Rattle.std.specs.Option.{is_some}
 use Prim.Native.Nat.{ℕ, ◌+◌, ◌*◌, ◌/◌, ◌≤◌, ◌<◌}
 use native.Mathlib.Nat.{le_refl}
@@ -124,16 +124,16 @@ module _ {s m c firsts : List ℕ} {n : ℕ} (p : Listable s m c firsts n) where
       few = h.counted_more (some-there (elements_from s i) with-body)
 
       pub below : k < length f
-      below = omega (arith, few, z.from_here, z.most, step-least r.named, p.lent.size, p.macros_room, h.firsts_size)
+      below = omega (arith, few, z.from_here, z.most, step-least (is_some r.used), p.lent.size, p.macros_room, h.firsts_size)
 
       abbrev f' : List ℕ
       f' = set f k q
 
       abbrev q' : ℕ
-      q' = cond r.named r.used q
+      q' = unwrap_or r.used q
 
       abbrev k' : ℕ
-      k' = k + cond r.named 1 0
+      k' = k + cond (is_some r.used) 1 0
 
       same-below : (j : ℕ) → j < k → get_or f' j 0 ≡ get_or f j 0
       same-below j l = get_or-set_other f k j q 0 (λ w. omega arith)
@@ -141,19 +141,19 @@ module _ {s m c firsts : List ℕ} {n : ℕ} (p : Listable s m c firsts n) where
       own_first : get_or f' k 0 ≡ q
       own_first = get_or-set_same f k q 0 below
 
-      new-lies : Lies e q r.used
-      new-lies = record { own = omega (arith, z.used_is, behind-from e (change_count e q) (first_change e q)); all_of_it = omega (arith, z.used_is) }
+      new-lies : (u : ℕ) → r.used ≡ Some u → Lies e q u
+      new-lies u w = record { own = omega (arith, z.used_is u w, behind-from e (change_count e q) (first_change e q)); all_of_it = omega (arith, z.used_is u w) }
 
       old-lies : (j : ℕ) → j < k → Lies e (get_or f' j 0) q
       old-lies j l = rw (same-below j l) (lies_same y.kept (get_or f j 0) (h.placed j l))
 
-      placed-now : (w : Bool) → (j : ℕ) → j < k + cond w 1 0 → Lies e (get_or f' j 0) (cond w r.used q)
-      placed-now false j l = old-lies j (omega arith)
-      placed-now true j l = go (dec_lt j k)
+      placed-now : (v : Option ℕ) → r.used ≡ v → (j : ℕ) → j < k + cond (is_some v) 1 0 → Lies e (get_or f' j 0) (unwrap_or v q)
+      placed-now None w j l = old-lies j (omega arith)
+      placed-now (Some u) w j l = go (dec_lt j k)
         where
-          go : Dec (j < k) → Lies e (get_or f' j 0) r.used
-          go (yes m) = lies-on (old-lies j m) (omega (arith, z.low))
-          go (no m) = let x : j ≡ k = omega arith in rw (x, own_first) new-lies
+          go : Dec (j < k) → Lies e (get_or f' j 0) u
+          go (yes m) = lies-on (old-lies j m) (omega (arith, z.low u w))
+          go (no m) = let x : j ≡ k = omega arith in rw (x, own_first) (new-lies u w)
 
       old-macros : tab k (λ j. macro_in s e (get_or f' j 0)) ≡ macros_in s d f k
       unfolding macros_in
@@ -172,12 +172,12 @@ module _ {s m c firsts : List ℕ} {n : ℕ} (p : Listable s m c firsts n) where
       more : defined_in us ≡ stretch us ∷ defined_in (elements_from s r.passed.next)
       more = defined-on us with-body ∙ ap (λ (ts : List spec.Element). stretch us ∷ defined_in ts) (sym z.rest)
 
-      paid-now : (w : Bool) → r.named ≡ w → cond w r.used q + 2 ≤ 2 * r.passed.next
-      paid-now true x = z.paid x
-      paid-now false x = omega (arith, h.paid, z.from_here, step-least r.named)
+      paid-now : (v : Option ℕ) → r.used ≡ v → unwrap_or v q + 2 ≤ 2 * r.passed.next
+      paid-now (Some u) w = z.paid u w
+      paid-now None w = omega (arith, h.paid, z.from_here, step-least (is_some r.used))
 
-      count-now : (w : Bool) → r.named ≡ w → (3 * (k + cond w 1 0) ≤ r.passed.next + 1) × (filled (elements_from s r.passed.next) ≡ true → 3 * (k + cond w 1 0) ≤ r.passed.next)
-      count-now false x = (omega (arith, few, z.from_here, step-least r.named), λ c. omega (arith, few, z.from_here, step-least r.named))
+      count-now : (w : Bool) → is_some r.used ≡ w → (3 * (k + cond w 1 0) ≤ r.passed.next + 1) × (filled (elements_from s r.passed.next) ≡ true → 3 * (k + cond w 1 0) ≤ r.passed.next)
+      count-now false x = (omega (arith, few, z.from_here, step-least (is_some r.used)), λ c. omega (arith, few, z.from_here, step-least (is_some r.used)))
       count-now true x = (omega (arith, few, steps), λ c. let m = z.closed_more x c in omega (arith, few))
         where
           steps : i + 2 ≤ r.passed.next
@@ -189,15 +189,15 @@ module _ {s m c firsts : List ℕ} {n : ℕ} (p : Listable s m c firsts n) where
           record {
             from_here = omega (arith, h.from_here, z.from_here);
             most = z.most;
-            paid = paid-now r.named refl;
+            paid = paid-now r.used refl;
             size = y.kept.size ∙ h.size;
             firsts_size = length-set f k q ∙ h.firsts_size;
-            counted = (count-now r.named refl).0;
-            counted_more = (count-now r.named refl).1;
-            placed = placed-now r.named;
+            counted = (count-now (is_some r.used) refl).0;
+            counted_more = (count-now (is_some r.used) refl).1;
+            placed = placed-now r.used refl;
             macros_are =
-                ap (λ (ms : List Macro). ms ++ each (macro_of s) rest) (macros-now r.named)
-                ∙ append_assoc (macros_in s d f k) (cond r.named (macro_in s e q ∷ []) []) (each (macro_of s) rest)
+                ap (λ (ms : List Macro). ms ++ each (macro_of s) rest) (macros-now (is_some r.used))
+                ∙ append_assoc (macros_in s d f k) (cond (is_some r.used) (macro_in s e q ∷ []) []) (each (macro_of s) rest)
                 ∙ ap (λ (ms : List Macro). macros_in s d f k ++ (ms ++ each (macro_of s) rest)) (sym z.macro_is)
                 ∙ ap (λ (xs : List (List spec.Element)). macros_in s d f k ++ each (macro_of s) xs) (sym more)
                 ∙ h.macros_are;

@@ -14,7 +14,8 @@ use Rattle.syntax.specs.Items.Sort.{wrong}
 use Rattle.macros.specs.Elements.{Element, is_open, is_close, is_bracket, until, from, cut_off, stretches}
 use Rattle.macros.specs.Macros.{has_body}
 use Rattle.macros.proofs.PlaceLaws.{joined-stretches}
-use Rattle.macro_reading.specs.Definitions.{stretch, bodiless, defined_in, last_in, after_in}
+use Rattle.macros.specs.Conditions.{bodiless}
+use Rattle.macro_reading.specs.Definitions.{stretch, defined_in, last_in, after_in}
 use Rattle.macro_changes.proofs.Searching.{until-on, until-off, from_on, from-off}
 
 -- the first stretch up to a closing bracket, and the others

@@ -1,11 +1,12 @@
 -- Definitions in cells: what the functions that read them promise.
 use Rattle.std.specs.Option.{is_some}
-use Rattle.std.specs.Prelude.{Option, Some, None, ◌≡◌, Bool, true, false, cond, not, ◌||◌, List, [], ◌∷◌, ◌++◌, ℕ, ◌+◌, ◌*◌, ◌≤◌, ◌<◌, length, get_or, take, drop}
+use Rattle.std.specs.Prelude.{Option, Some, None, ◌≡◌, Bool, true, false, cond, ◌||◌, List, [], ◌∷◌, ◌++◌, ℕ, ◌+◌, ◌*◌, ◌≤◌, ◌<◌, length, get_or, take, drop}
 use Rattle.lists.specs.Lists.{each, filled, head_or, if_any, joined}
 use Rattle.statements.specs.Faults.{Fault}
 use Rattle.statements.specs.Faults.{lower}
 use Rattle.statements.specs.StatementAt.{fault_of}
 use Rattle.macros.specs.Elements.{Element, is_open, is_close, until, from, stretches}
+use Rattle.macros.specs.Conditions.{bodiless}
 use Rattle.macros.specs.Macros.{has_body, macro_of, definition_faults}
 use Rattle.macro_changes.specs.Changing.{Kept}
 use Rattle.macro_code.specs.Code.{change_count, first_change, behind_changes, macro_in, macros_in}
@@ -36,15 +37,15 @@ pub record Definable (s m c : List ℕ) (n q : ℕ) : Type 0 where
   pub wide : length c ≤ 131072
 
 pub record Defining (s d : List ℕ) (n q : ℕ) (r : Definition) : Type 0 where
-  pub macro_is : macro_of s (stretch (elements_from s n)) ≡ cond r.named (macro_in s d q ∷ []) []
+  pub macro_is : macro_of s (stretch (elements_from s n)) ≡ cond (is_some r.used) (macro_in s d q ∷ []) []
   pub fault_is : r.passed.fault ≡ fault_of (definition_faults (stretch (elements_from s n)))
   pub rest : elements_from s r.passed.next ≡ drop 1 (from is_close (elements_from s n))
-  pub from_here : n + cond r.named 2 1 ≤ r.passed.next
-  pub closed_more : r.named ≡ true → filled (elements_from s r.passed.next) ≡ true → n + 3 ≤ r.passed.next
+  pub from_here : n + cond (is_some r.used) 2 1 ≤ r.passed.next
+  pub closed_more : is_some r.used ≡ true → filled (elements_from s r.passed.next) ≡ true → n + 3 ≤ r.passed.next
   pub most : r.passed.next ≤ length s
-  pub paid : r.named ≡ true → r.used + 2 ≤ 2 * r.passed.next
-  pub low : q + 3 ≤ r.used
-  pub used_is : behind_changes d (first_change d q) (change_count d q) ≡ r.used
+  pub paid : (u : ℕ) → r.used ≡ Some u → u + 2 ≤ 2 * r.passed.next
+  pub low : (u : ℕ) → r.used ≡ Some u → q + 3 ≤ u
+  pub used_is : (u : ℕ) → r.used ≡ Some u → behind_changes d (first_change d q) (change_count d q) ≡ u
 
 pub record Defined (s c d : List ℕ) (n q : ℕ) (r : Option Definition) : Type 0 where
   pub kept : Kept c d q
@@ -52,9 +53,6 @@ pub record Defined (s c d : List ℕ) (n q : ℕ) (r : Option Definition) : Type
   pub defining : (x : Definition) → r ≡ Some x → Defining s d n q x
 
 -- from a list's bracket on: definitions, the stretch that ends the list, and what follows it
-abbrev pub bodiless : List Element → Bool
-bodiless x = not (has_body x)
-
 abbrev pub defined_in : List Element → List (List Element)
 defined_in us = until bodiless (stretches is_close us)
 

@@ -4,9 +4,9 @@ use Rattle.lists.specs.Lists.{any, if_any, keep}
 use Rattle.statements.specs.Faults.{Fault}
 use Rattle.statements.specs.Faults.{lower}
 use Rattle.statements.specs.StatementAt.{fault_of}
-use Rattle.macros.specs.Elements.{Element, is_word, is_end, is_star, is_close, places_in, until, from}
+use Rattle.macros.specs.Elements.{Element, is_word, is_end, is_close, places_in, until, from}
 use Rattle.macros.specs.Macros.{has_body, from_statement, header_faults}
-use Rattle.macros.specs.Pieces.{is_stray}
+use Rattle.macros.specs.Conditions.{outer}
 use Rattle.macro_changes.specs.Changing.{Kept}
 use Rattle.macro_changes.specs.declared.Passed.{Passed}
 use Rattle.macro_elements.specs.ElementAt.{elements_from}
@@ -18,10 +18,6 @@ pub record Skips (s : List ℕ) (n r : ℕ) : Type 0 where
   pub from_here : n ≤ r
   pub most : r ≤ length s
   pub is : elements_from s r ≡ from_statement (elements_from s n)
-
--- what may not stand before the list
-abbrev pub outer : Element → Bool
-outer t = is_star t || is_stray [] t
 
 abbrev pub outer_faults : List Element → List ℕ
 outer_faults ts = places_in (keep outer ts)

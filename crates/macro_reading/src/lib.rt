@@ -6,15 +6,16 @@ ghost use Rattle.std.specs.Prelude.{Some, None, ◌≡◌, cond, not, List, [], 
 ghost use Rattle.macros.specs.Elements.{is_bracket};
 ghost use Rattle.macro_elements.specs.ElementAt.{elements_from, argument_value, Lent};
 ghost use Rattle.macro_reading.specs.Whole.{follow_faults, Sectioned, SectionRead, Bracketed, ListRead, LentRows, MacrosRead};
-ghost use Rattle.macro_reading.specs.Sections.{outer, Skips, FirstRead, Tailed, TailRead};
+ghost use Rattle.macros.specs.Conditions.{outer};
+ghost use Rattle.macro_reading.specs.Sections.{Skips, FirstRead, Tailed, TailRead};
 ghost use Rattle.statements.specs.Faults.{lower};
 ghost use Rattle.statements.specs.StatementAt.{fault_of};
 ghost use Rattle.macro_reading.specs.Definitions.{NextOpen, Definable, Defined, Listable, DefinitionsRead};
 ghost use Rattle.macro_reading.specs.Bodies.{Bodied, BodyRead};
 ghost use Rattle.macro_reading.specs.Headers.{word_cell, Headable, HeaderRead};
 
-use macro_changes::{Parameters, Passed, put, put_two, read_changes};
-use macro_code::CodePlaces;
+use macro_changes::{Parameters, Passed, put, put_change, read_changes};
+use macro_code::{Change, CodePlaces};
 use macro_elements::{Element, Source, is_identifier, is_mark, next_before, next_element};
 use scanner::Sort;
 use statements::{Fault, lower};
@@ -116,12 +117,11 @@ fn read_header(source: &Source, code: &mut [u32], n: usize, q: usize) -> Header
     }
 }
 
-// A definition that was read: what is passed; whether it has a name; and the cell behind it.
+// A definition that was read: what is passed; and the cell behind it, if it has a name.
 #[derive(Clone, Copy, Debug, PartialEq, Eq)]
 struct Definition {
     passed: Passed,
-    named: bool,
-    used: usize,
+    used: Option<usize>,
 }
 
 // The faults of a header and of a body, and of the bracket between them, where there is no name or the body is not closed.
@@ -158,13 +158,12 @@ fn read_definition(source: &Source, code: &mut [u32], n: usize, q: usize) -> Opt
             next: r.passed.next,
             fault: definition_fault(h.passed.fault, named & r.closed, b.at, r.passed.fault),
         },
-        named,
-        used: r.used,
+        used: named.then_some(r.used),
     })
 }
 
 // The definitions that were read: what is passed, up to the stretch behind them; the cell behind them; the count of macros; and whether there is a
-// definition.
+// definition: one without a name counts no macro, so that the count does not tell it.
 #[derive(Clone, Copy, Debug, PartialEq, Eq)]
 struct Definitions {
     passed: Passed,
@@ -185,8 +184,8 @@ fn read_definitions(source: &Source, code: &mut [u32], firsts: &mut [u16], n: us
     let mut defined = false;
     while let Some(r) = read_definition(source, code, passed.next, q) {
         firsts[k] = q as u16;
-        k += usize::from(r.named);
-        q = if r.named { r.used } else { q };
+        k += usize::from(r.used.is_some());
+        q = r.used.unwrap_or(q);
         passed = passed.and(r.passed);
         defined = true;
     }
@@ -317,7 +316,7 @@ fn read_list(
     let next = e.passed.next;
     let before = lower(first, follow_fault(source, next));
     let u = d.used + CodePlaces::PARAMETERS;
-    put_two(code, u, at, e.stop, CodePlaces::NOTHING, 0);
+    put_change(code, u, at, e.stop, Change::Nothing);
     let section = read_section(source, code, d.used, 1, u + CodePlaces::SMALL_SIZE, next);
     Listing {
         count: d.count,

@@ -4,13 +4,10 @@ use Rattle.std.proofs.Math.Path.{refl, ap}
 use Rattle.std.proofs.Common.{sym, ◌∙◌, append_assoc, append-nil, length-take, length-drop}
 use Rattle.std.proofs.Math.Seq.{drop-nil}
 use Rattle.std.proofs.lemmas.Bool.{false≢true}
-use Prim.Native.Nat.{ℕ, ◌+◌, ◌-◌, ◌≤◌}
+use Prim.Native.Nat.{ℕ, zero, suc, ◌+◌, ◌-◌, ◌≤◌, ◌<◌}
 use native.Mathlib.Omega.{arith}
 use Rattle.lists.specs.Lists.{each}
-use Rattle.macro_code.specs.ChangeLaws.{changes-turn, changes-done}
-use Rattle.macro_code.specs.Changes.{StartsAt, Gives}
-use Rattle.macro_code.specs.declared.changes.Changes.{Changes}
-use Rattle.macro_code.specs.Code.{high, low, is_value, is_call, call_in, change_in, changes_in, body_in, macros_in, arguments_in, first_change, change_count}
+use Rattle.macro_code.specs.Code.{high, low, is_value, is_call, call_in, change_in, changes_in, size_at, body_in, macros_in, arguments_in, first_change, change_count}
 use Rattle.macro_code.specs.Places as cell
 use Rattle.macro_expansion.specs.Expanding.{inner, change_writes}
 use Rattle.macro_expansion.specs.WalkLaws.{expand-walks}
@@ -47,33 +44,37 @@ change-deeps s c f n i = go (is_value c i) (is_call c i)
     go false true = one
     go false false = refl
 
-module _ (s c f : List ℕ) (n stop place : ℕ) (old : Changes) (code : old.coded.code.now ≡ c) where
-  deeps-step : {i : ℕ} {new : Changes} → Gives old i new → rest_deeps s c f n place stop old.cell old.left
-      ≡ cond (change_writes s c f n [] levels i).deep (high c i ∷ []) [] ++ rest_deeps s c f n (low c i) stop new.cell new.left
-  unfolding pieces_from change_in deep_places
-  deeps-step {i} {new} g =
-      ap (λ ds. each (deep_places (macros_in s c f n)) (pieces_from s place stop ds)) (changes-turn s c old code g)
-      ∙ each_both (deep_places (macros_in s c f n)) (change_in s c i).pieces (pieces_from s (low c i) stop (changes_in s c new.cell new.left))
-      ∙ ap (λ l. l ++ rest_deeps s c f n (low c i) stop new.cell new.left) (change-deeps s c f n i)
+module _ (s c f : List ℕ) (n stop place i : ℕ) where
+  deeps-step : (k : ℕ) → 0 < k → rest_deeps s c f n place stop i k
+      ≡ cond (change_writes s c f n [] levels i).deep (high c i ∷ []) [] ++ rest_deeps s c f n (low c i) stop (i + size_at c i) (k - 1)
+  unfolding changes_in pieces_from change_in deep_places
+  deeps-step zero l = absurd (omega arith)
+  deeps-step (suc k) l =
+      let e : suc k - 1 ≡ k = omega arith in
+      rw e
+      (each_both (deep_places (macros_in s c f n)) (change_in s c i).pieces (pieces_from s (low c i) stop (changes_in s c (i + size_at c i) k))
+      ∙ ap (λ l. l ++ rest_deeps s c f n (low c i) stop (i + size_at c i) k) (change-deeps s c f n i))
 
-  deeps-last : old.left ≡ 0 → rest_deeps s c f n place stop old.cell old.left ≡ []
-  unfolding pieces_from deep_places
-  deeps-last e = ap (λ ds. each (deep_places (macros_in s c f n)) (pieces_from s place stop ds)) (changes-done s c old code e)
+  deeps-last : (k : ℕ) → k ≤ 0 → rest_deeps s c f n place stop i k ≡ []
+  unfolding changes_in pieces_from deep_places
+  deeps-last zero l = refl
+  deeps-last (suc k) l = absurd (omega arith)
 
-  steady-step : {i : ℕ} {new : Changes} → Gives old i new → Steady place (changes_in s c old.cell old.left)
-      → (place ≤ high c i) × (high c i ≤ low c i) × Steady (low c i) (changes_in s c new.cell new.left)
-  unfolding change_in
-  steady-step {i} {new} g h = rw (changes-turn s c old code g) at h
+  steady-step : (k : ℕ) → 0 < k → Steady place (changes_in s c i k)
+      → (place ≤ high c i) × (high c i ≤ low c i) × Steady (low c i) (changes_in s c (i + size_at c i) (k - 1))
+  unfolding changes_in change_in
+  steady-step zero l h = absurd (omega arith)
+  steady-step (suc k) l h = let e : suc k - 1 ≡ k = omega arith in rw e h
 
-module _ (s c f : List ℕ) (n stop : ℕ) (all from : List ℕ) (w w' : Written) (long long' : Fault) (o q p : List ℕ) (room place : ℕ) (old : Changes) (code : old.coded.code.now ≡ c) (same : length q ≡ room)
-    (h : Overs s c f n stop room all from w long place old.cell old.left) (within : size_of w ≤ length q) where
+module _ (s c f : List ℕ) (n stop : ℕ) (all from : List ℕ) (w w' : Written) (long long' : Fault) (o q p : List ℕ) (room place i k : ℕ) (same : length q ≡ room)
+    (h : Overs s c f n stop room all from w long place i k) (within : size_of w ≤ length q) where
   -- a change
-  pub overs-turn : (i : ℕ) (new : Changes) → Gives old i new → (w'' : Written) (long'' : Fault) (r : List ℕ) (place' : ℕ) → Wrote (just (take (high c i - place) (drop place s))) w w' q p
+  pub overs-turn : (w'' : Written) (long'' : Fault) (r : List ℕ) (place' i' : ℕ) → 0 < k → Wrote (just (take (high c i - place) (drop place s))) w w' q p
       → long' ≡ over_at long (is_over w) (is_over w') (place + (room - size_of w)) → Wrote (change_writes s c f n [] levels i) w' w'' p r
-      → long'' ≡ over_at long' (is_over w') (is_over w'') (high c i) → place' ≡ low c i
-      → Overs s c f n stop room all (from ++ (up_from place (take (high c i - place) (drop place s)) ++ map (λ b. high c i) (change_writes s c f n [] levels i).bytes)) w'' long'' place' new.cell new.left
-  overs-turn i new gives w'' long'' r place' a b d e g =
-      let st = steady-step s c f n stop place old code gives h.steady in
+      → long'' ≡ over_at long' (is_over w') (is_over w'') (high c i) → place' ≡ low c i → i' ≡ size_at c i
+      → Overs s c f n stop room all (from ++ (up_from place (take (high c i - place) (drop place s)) ++ map (λ b. high c i) (change_writes s c f n [] levels i).bytes)) w'' long'' place' (i + i') (k - 1)
+  overs-turn w'' long'' r place' i' l a b d e g j =
+      let st = steady-step s c f n stop place i k l h.steady in
       let lo = st.0 in
       let x = change_writes s c f n [] levels i in
       let bytes = take (high c i - place) (drop place s) in
@@ -84,38 +85,38 @@ module _ (s c f : List ℕ) (n stop : ℕ) (all from : List ℕ) (w w' : Written
       (omega (arith, a.most, a.size)) d (omega arith) st.1 e in
       record {
         deeps = (h.deeps ++ []) ++ cond x.deep (high c i ∷ []) [];
-        deeps_is = rw g
+        deeps_is = rw (g, j)
             (h.deeps_is
-            ∙ ap (λ y. h.deeps ++ y) (deeps-step s c f n stop place old code gives)
-            ∙ ap (λ y. y ++ (cond x.deep (high c i ∷ []) [] ++ rest_deeps s c f n (low c i) stop new.cell new.left)) (sym (append-nil h.deeps))
-            ∙ sym (append_assoc (h.deeps ++ []) (cond x.deep (high c i ∷ []) []) (rest_deeps s c f n (low c i) stop new.cell new.left)));
+            ∙ ap (λ y. h.deeps ++ y) (deeps-step s c f n stop place i k l)
+            ∙ ap (λ y. y ++ (cond x.deep (high c i ∷ []) [] ++ rest_deeps s c f n (low c i) stop (i + size_at c i) (k - 1))) (sym (append-nil h.deeps))
+            ∙ sym (append_assoc (h.deeps ++ []) (cond x.deep (high c i ∷ []) []) (rest_deeps s c f n (low c i) stop (i + size_at c i) (k - 1))));
         told = rw (g, ← (append_assoc from (up_from place bytes) (map (λ b. high c i) x.bytes))) (rw sz at two);
-        steady = rw g st.2;
+        steady = rw (g, j) st.2;
       }
 
   -- its end
-  pub overs-end : old.left ≡ 0 → Wrote (just (take (stop - place) (drop place s))) w w' q p → long' ≡ over_at long (is_over w) (is_over w') (place + (room - size_of w))
+  pub overs-end : k ≤ 0 → Wrote (just (take (stop - place) (drop place s))) w w' q p → long' ≡ over_at long (is_over w) (is_over w') (place + (room - size_of w))
       → long' ≡ fault_of (all ++ drop room (from ++ up_from place (take (stop - place) (drop place s))))
   overs-end l a b =
       let bytes = take (stop - place) (drop place s) in
       let one = long_kept h.deeps from bytes q p w w' long long' place (place + length bytes) (rw same h.told) within a (omega arith) (rw same b) in
-      let e : all ≡ h.deeps ++ [] = h.deeps_is ∙ ap (λ y. h.deeps ++ y) (deeps-last s c f n stop place old code l) in
+      let e : all ≡ h.deeps ++ [] = h.deeps_is ∙ ap (λ y. h.deeps ++ y) (deeps-last s c f n stop place i k l) in
       rw e (rw same at one.long_is)
 
 -- its beginning
-pub overs-begin : (s c f : List ℕ) (n room q place stop : ℕ) (left : Changes) (v : Written) → size_of v ≡ 0 → is_over v ≡ false → place ≡ high c (q + cell.span_cell) → stop ≡ low c (q + cell.span_cell)
-    → StartsAt c q left → Steady (high c (q + cell.span_cell)) (changes_in s c (first_change c q) (change_count c q))
-    → Overs s c f n stop room (each (deep_places (macros_in s c f n)) (body_in s c q)) [] v None place left.cell left.left
+pub overs-begin : (s c f : List ℕ) (n room q place stop i k : ℕ) (v : Written) → size_of v ≡ 0 → is_over v ≡ false → place ≡ high c (q + cell.span_cell) → stop ≡ low c (q + cell.span_cell)
+    → i ≡ first_change c q → k ≡ change_count c q → Steady (high c (q + cell.span_cell)) (changes_in s c (first_change c q) (change_count c q))
+    → Overs s c f n stop room (each (deep_places (macros_in s c f n)) (body_in s c q)) [] v None place i k
 unfolding body_in
-overs-begin s c f n room q place stop left v z y a b d h =
+overs-begin s c f n room q place stop i k v z y a b d e h =
     record {
       deeps = [];
-      deeps_is = rw (a, b, d.cell_is, d.left_is);
+      deeps_is = rw (a, b, d, e);
       told = record {
         long_is = sym (ap fault_of (drop-nil room));
         count = λ u. z;
         fine = λ u. refl;
         bad = λ u. absurd (false≢true (sym y ∙ u));
       };
-      steady = rw (a, d.cell_is, d.left_is) h;
+      steady = rw (a, d, e) h;
     }

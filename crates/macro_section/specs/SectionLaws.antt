@@ -3,13 +3,10 @@ use Rattle.std.specs.Prelude.{◌≡◌, refl, Bool, true, false, cond, ◌||◌
 use Rattle.std.proofs.Math.Path.{sym, ap}
 use Rattle.std.proofs.Common.{◌∙◌, arith, length-take, length-drop}
 use mathlib.Core.List.{List, [], ◌∷◌, ◌++◌, map, append_assoc, append-nil}
-use Prim.Native.Nat.{ℕ, ◌+◌, ◌-◌, ◌≤◌, ◌<◌}
+use Prim.Native.Nat.{ℕ, zero, suc, ◌+◌, ◌-◌, ◌≤◌, ◌<◌}
 use Rattle.language.specs.Limits as limit
 use Rattle.lists.specs.Lists.{each}
-use Rattle.macro_code.specs.ChangeLaws.{changes-turn, changes-done}
-use Rattle.macro_code.specs.Changes.{StartsAt, Gives}
-use Rattle.macro_code.specs.declared.changes.Changes.{Changes}
-use Rattle.macro_code.specs.Code.{high, low, is_value, is_call, call_in, change_in, changes_in, body_in, macros_in, arguments_in, first_change, change_count}
+use Rattle.macro_code.specs.Code.{high, low, is_value, is_call, call_in, change_in, changes_in, size_at, body_in, macros_in, arguments_in, first_change, change_count}
 use Rattle.macro_code.specs.Places as cell
 use Rattle.macro_expansion.specs.Expanding.{inner, change_writes, rest_writes}
 use Rattle.macro_expansion.specs.ExpandLaws.{body-rest}
@@ -62,21 +59,24 @@ change-origins s c f n i = go (is_value c i) (is_call c i)
     go false true = one
     go false false = refl
 
-module _ (s c f : List ℕ) (n stop place : ℕ) (old : Changes) (code : old.coded.code.now ≡ c) where
-  origins-step : {i : ℕ} {new : Changes} → Gives old i new → rest_origins s c f n place stop old.cell old.left
-      ≡ up_from place (take (high c i - place) (drop place s)) ++ (map (λ b. high c i) (change_writes s c f n [] levels i).bytes ++ rest_origins s c f n (low c i) stop new.cell new.left)
-  unfolding pieces_from change_in origins
-  origins-step {i} {new} g =
-      ap (λ ds. each (origins (macros_in s c f n)) (pieces_from s place stop ds)) (changes-turn s c old code g)
-      ∙ ap (λ l. up_from place (take (high c i - place) (drop place s)) ++ l)
-      (each_both (origins (macros_in s c f n)) (change_in s c i).pieces (pieces_from s (low c i) stop (changes_in s c new.cell new.left))
-      ∙ ap (λ l. l ++ rest_origins s c f n (low c i) stop new.cell new.left) (change-origins s c f n i))
+module _ (s c f : List ℕ) (n stop place i : ℕ) where
+  origins-next : (k : ℕ) → rest_origins s c f n place stop i (suc k)
+      ≡ up_from place (take (high c i - place) (drop place s)) ++ (map (λ b. high c i) (change_writes s c f n [] levels i).bytes ++ rest_origins s c f n (low c i) stop (i + size_at c i) k)
+  unfolding changes_in pieces_from change_in origins
+  origins-next k =
+      ap (λ l. up_from place (take (high c i - place) (drop place s)) ++ l)
+      (each_both (origins (macros_in s c f n)) (change_in s c i).pieces (pieces_from s (low c i) stop (changes_in s c (i + size_at c i) k))
+      ∙ ap (λ l. l ++ rest_origins s c f n (low c i) stop (i + size_at c i) k) (change-origins s c f n i))
 
-  origins-last : old.left ≡ 0 → rest_origins s c f n place stop old.cell old.left ≡ up_from place (take (stop - place) (drop place s))
-  unfolding pieces_from origins
-  origins-last e =
-      ap (λ ds. each (origins (macros_in s c f n)) (pieces_from s place stop ds)) (changes-done s c old code e)
-      ∙ append-nil (up_from place (take (stop - place) (drop place s)))
+  origins-step : (k : ℕ) → 0 < k → rest_origins s c f n place stop i k
+      ≡ up_from place (take (high c i - place) (drop place s)) ++ (map (λ b. high c i) (change_writes s c f n [] levels i).bytes ++ rest_origins s c f n (low c i) stop (i + size_at c i) (k - 1))
+  origins-step zero l = absurd (omega arith)
+  origins-step (suc k) l = let e : suc k - 1 ≡ k = omega arith in rw e (origins-next k)
+
+  origins-last : (k : ℕ) → k ≤ 0 → rest_origins s c f n place stop i k ≡ up_from place (take (stop - place) (drop place s))
+  unfolding changes_in pieces_from origins
+  origins-last zero l = append-nil (up_from place (take (stop - place) (drop place s)))
+  origins-last (suc k) l = absurd (omega arith)
 
 -- bytes that stay
 pub kept-placed : (bytes : List ℕ) (place : ℕ) (v r : Written) (o p m m' : List ℕ) → Wrote (just bytes) v r o p
@@ -103,21 +103,21 @@ kept_near s from to v r o p h l m z =
 pub fillable : (w : Writing) (v r : Written) (o p m : List ℕ) → Wrote w v r o p → Room o m → Fillable (size_of v) r m
 fillable w v r o p m h e = record { room = omega (arith, h.most, e.same); short = omega (arith, e.same, e.short); above = λ z. omega (arith, (h.within z).0) }
 
-module _ (s c f : List ℕ) (n stop : ℕ) (x : Writing) (places : List ℕ) (v w w' : Written) (o q p m m' from : List ℕ) (place : ℕ) (old : Changes)
-    (code : old.coded.code.now ≡ c) (h : Going s c f n stop x places v w o q m from place old.cell old.left) where
+module _ (s c f : List ℕ) (n stop : ℕ) (x : Writing) (places : List ℕ) (v w w' : Written) (o q p m m' from : List ℕ) (place i k : ℕ)
+    (h : Going s c f n stop x places v w o q m from place i k) where
   -- a change
-  pub section-turn : (i : ℕ) (new : Changes) → Gives old i new → (w'' : Written) (r m'' : List ℕ) (place' star : ℕ) → Kept (take (high c i - place) (drop place s)) place w w' q p m m'
+  pub section-turn : (w'' : Written) (r m'' : List ℕ) (place' i' star : ℕ) → 0 < k → Kept (take (high c i - place) (drop place s)) place w w' q p m m'
       → Wrote (change_writes s c f n [] levels i) w' w'' p r → Placed (size_of w') w'' m' m'' (replicate (size_of w'' - size_of w') star)
-      → star ≡ high c i → place' ≡ low c i → Going s c f n stop x places v w'' o r m'' (from ++ (up_from place (take (high c i - place) (drop place s)) ++ map (λ b. high c i) (change_writes s c f n [] levels i).bytes)) place' new.cell new.left
-  section-turn i new gives w'' r m'' place' star a b d g e =
-      let t = run-turn s c f n [] levels stop x h.behind v w w' w'' o q p r place old code h.wrote h.is i new gives place' a.wrote b e in
+      → star ≡ high c i → place' ≡ low c i → i' ≡ size_at c i → Going s c f n stop x places v w'' o r m'' (from ++ (up_from place (take (high c i - place) (drop place s)) ++ map (λ b. high c i) (change_writes s c f n [] levels i).bytes)) place' (i + i') (k - 1)
+  section-turn w'' r m'' place' i' star l a b d g e j =
+      let t = run-turn s c f n [] levels stop x h.behind v w w' w'' o q p r place i k h.wrote h.is place' i' l a.wrote b e j in
       record {
         behind = t.0;
         wrote = t.1;
         is = t.2;
-        from_is = rw e
+        from_is = rw (e, j)
             (h.from_is
-            ∙ ap (λ y. from ++ y) (origins-step s c f n stop place old code gives ∙ sym (append_assoc (up_from place bytes) (map (λ y. high c i) written) rest))
+            ∙ ap (λ y. from ++ y) (origins-step s c f n stop place i k l ∙ sym (append_assoc (up_from place bytes) (map (λ y. high c i) written) rest))
             ∙ sym (append_assoc from (up_from place bytes ++ map (λ y. high c i) written) rest));
         placed = told;
       }
@@ -129,7 +129,7 @@ module _ (s c f : List ℕ) (n stop : ℕ) (x : Writing) (places : List ℕ) (v 
       written = (change_writes s c f n [] levels i).bytes
 
       rest : List ℕ
-      rest = rest_origins s c f n (low c i) stop new.cell new.left
+      rest = rest_origins s c f n (low c i) stop (i + size_at c i) (k - 1)
 
       told : is_over w'' ≡ false → take (size_of w'') m'' ≡ from ++ (up_from place bytes ++ map (λ y. high c i) written)
       told z =
@@ -142,10 +142,10 @@ module _ (s c f : List ℕ) (n stop : ℕ) (x : Writing) (places : List ℕ) (v 
           ∙ append_assoc from (up_from place bytes) (map (λ b. high c i) written)
 
   -- its end
-  pub section-ends : old.left ≡ 0 → Kept (take (stop - place) (drop place s)) place w w' q p m m'
+  pub section-ends : k ≤ 0 → Kept (take (stop - place) (drop place s)) place w w' q p m m'
       → Wrote x v w' o p × (is_over w' ≡ false → take (size_of w') m' ≡ places) × (places ≡ from ++ up_from place (take (stop - place) (drop place s)))
   section-ends l a =
-      (rw (h.is ∙ ap (followed_by h.behind) (rest-last s c f n [] levels stop place old code l)) (wrote-both h.behind (just bytes) v w w' o q p h.wrote a.wrote), told, h.from_is ∙ ap (λ y. from ++ y) (origins-last s c f n stop place old code l))
+      (rw (h.is ∙ ap (followed_by h.behind) (rest-last s c f n [] levels stop place i k l)) (wrote-both h.behind (just bytes) v w w' o q p h.wrote a.wrote), told, h.from_is ∙ ap (λ y. from ++ y) (origins-last s c f n stop place i k l))
     where
       bytes : List ℕ
       bytes = take (stop - place) (drop place s)
@@ -155,18 +155,18 @@ module _ (s c f : List ℕ) (n stop : ℕ) (x : Writing) (places : List ℕ) (v 
           let z₀ = not-over (just bytes) w w' q p a.wrote z in
           a.placed.is z
           ∙ ap (λ y. y ++ up_from place bytes) (h.placed z₀)
-          ∙ sym (h.from_is ∙ ap (λ y. from ++ y) (origins-last s c f n stop place old code l))
+          ∙ sym (h.from_is ∙ ap (λ y. from ++ y) (origins-last s c f n stop place i k l))
 
 -- its beginning
 module _ (s c f : List ℕ) (n q : ℕ) where
-  pub section-begins : (place stop : ℕ) (left : Changes) (v : Written) (o m : List ℕ) → size_of v ≡ 0 → place ≡ high c (q + cell.span_cell) → stop ≡ low c (q + cell.span_cell) → StartsAt c q left
-      → Going s c f n stop (expand (macros_in s c f n) levels [] (body_in s c q)) (each (origins (macros_in s c f n)) (body_in s c q)) v v o o m [] place left.cell left.left
+  pub section-begins : (place stop i k : ℕ) (v : Written) (o m : List ℕ) → size_of v ≡ 0 → place ≡ high c (q + cell.span_cell) → stop ≡ low c (q + cell.span_cell) → i ≡ first_change c q
+      → k ≡ change_count c q → Going s c f n stop (expand (macros_in s c f n) levels [] (body_in s c q)) (each (origins (macros_in s c f n)) (body_in s c q)) v v o o m [] place i k
   unfolding arguments_in body_in
-  section-begins place stop left v o m z a b d =
+  section-begins place stop i k v o m z a b d e =
       record {
         behind = just [];
         wrote = wrote_none v o (omega (arith, z));
-        is = rw (a, b, d.cell_is, d.left_is) (body-rest s c f n [] levels q ∙ sym (none-followed (rest_writes s c f n [] levels (high c (q + 1)) (low c (q + 1)) (first_change c q) (change_count c q))));
-        from_is = rw (a, b, d.cell_is, d.left_is);
+        is = rw (a, b, d, e) (body-rest s c f n [] levels q ∙ sym (none-followed (rest_writes s c f n [] levels (high c (q + 1)) (low c (q + 1)) (first_change c q) (change_count c q))));
+        from_is = rw (a, b, d, e);
         placed = λ y. rw z;
       }

@@ -1,5 +1,6 @@
 -- What a name or an argument stands for, from the innermost call outwards.
-use Rattle.std.specs.Prelude.{◌≡◌, refl, Bool, true, false, cond, T, eqb, ltb}
+use Rattle.std.specs.Bool.{passes, then_some}
+use Rattle.std.specs.Prelude.{◌≡◌, refl, Bool, true, false, cond, eqb, ltb}
 use Rattle.std.proofs.Common.{sym, ◌∙◌, arith, ltb-true, ltb-false, ne_eqb, eqb→eq}
 use Rattle.std.proofs.Math.Path.{ap}
 use Rattle.std.proofs.lemmas.Bool.{false≢true}
@@ -13,6 +14,7 @@ use Rattle.layout.proofs.CellLaws.{length-tab, get_d-tab}
 use Rattle.macros.specs.Expansion.{filled_in}
 use Rattle.macros.specs.Pieces as piece
 use Rattle.macros.specs.Pieces.Given.{typed, parameter, joined}
+use Rattle.macro_code.specs.Bounds.{far}
 use Rattle.macro_code.specs.Code.{bytes_at, given_in, call_in, arguments_in, argument_count, argument_cell}
 use Rattle.macro_code.specs.Kinds.{GivenAt, parameter_of}
 use Rattle.macro_code.specs.Places as place
@@ -24,10 +26,6 @@ use Rattle.macro_values.specs.Values.{kind_of, number_in, own, goes_up, next_cel
 abbrev pub up : List (List ℕ) → List ℕ → ℕ → List ℕ
 up env c g = cond (eqb (kind_of c g) place.typed_kind) [] (get_or env (number_in c g) [])
 
-is_T : (b : Bool) → b ≡ true → T b
-is_T true e = tt
-is_T false e = absurd (let z : ◌≡◌ {A = ℕ} 0 1 = cc in omega arith)
-
 pub given-parts : (s c : List ℕ) (env : List (List ℕ)) (g : ℕ) → filled_in env (given_in s c g) ≡ own s c g ++ up env c g
 unfolding given_in own filled_in
 given-parts s c env g = go (eqb (kind_of c g) 0) (eqb (kind_of c g) 1) refl refl
@@ -36,8 +34,8 @@ given-parts s c env g = go (eqb (kind_of c g) 0) (eqb (kind_of c g) 1) refl refl
         → filled_in env (cond a (typed (bytes_at s c g)) (cond b (parameter (number_in c g)) (joined (bytes_at s c g) (number_in c g))))
         ≡ cond b [] (bytes_at s c g) ++ cond a [] (get_or env (number_in c g) [])
     go true true e f =
-        let x = eqb→eq (kind_of c g) 0 (is_T _ e) in
-        let y = eqb→eq (kind_of c g) 1 (is_T _ f) in
+        let x = eqb→eq (kind_of c g) 0 (passes _ e) in
+        let y = eqb→eq (kind_of c g) 1 (passes _ f) in
         absurd (omega arith)
     go true false e f = sym (append-nil (bytes_at s c g))
     go false true e f = refl
@@ -173,6 +171,12 @@ pub argument-told : (c calls : List ℕ) (d k i n : ℕ) → 1 ≤ d → i ≡ g
 unfolding has_argument
 argument-told c calls zero k i n h e f = absurd (omega arith)
 argument-told c calls (suc d) k i n h e f = let z : suc d - 1 ≡ d = omega arith in rw (f, e, z) refl
+
+-- as the code asks
+pub argument-if : (c calls : List ℕ) (d k : ℕ) (b : Bool) → has_argument c calls d k ≡ b → 1 ≤ d → {i : ℕ} → i ≡ argument_cell (get_or calls (d - 1) 0) k → i < far
+    → ArgumentOf c calls d k (then_some b i)
+argument-if c calls d k true h p e l = (h, p, e, l)
+argument-if c calls d k false h p e l = h
 
 pub no-argument : (s c calls : List ℕ) (d k : ℕ) → has_argument c calls d k ≡ false → [] ≡ get_or (arguments_in s c calls d) k []
 unfolding has_argument

@@ -7,6 +7,8 @@ use Rattle.macros.proofs.FaultLaws.{places-both}
 use Rattle.macros.specs.Expansion.{Fault, Writing, places_of, followed_by, just}
 use Rattle.statements.specs.Faults.{lower}
 use Rattle.statements.specs.FaultLaws.{fault-both}
+use Rattle.statements.specs.LowerLaws.{lower-right}
+pub use Rattle.statements.specs.LowerLaws.{lower-assoc}
 use Rattle.statements.specs.StatementAt.{fault_of}
 use Rattle.statements.specs.Faults as told
 use Rattle.std.specs.Prelude.{None, Some}
@@ -14,14 +16,7 @@ use Rattle.macro_values.specs.declared.Written.{Written}
 use Rattle.macro_values.specs.Wrote.{is_over, size_of, Wrote}
 
 pub lower-none-right : (a : told.Fault) → a ≡ lower a None
-lower-none-right None = refl
-lower-none-right (Some p) = refl
-
-pub lower-assoc : (a b c : told.Fault) → lower (lower a b) c ≡ lower a (lower b c)
-lower-assoc None b c = refl
-lower-assoc (Some p) None c = refl
-lower-assoc (Some p) (Some q) None = refl
-lower-assoc (Some p) (Some q) (Some r) = ap Some (omega arith)
+lower-none-right a = sym (lower-right a)
 
 -- a fault in two steps
 fault-then : (number : ℕ) (xs ys : List Fault) (v u r : told.Fault)
@@ -62,8 +57,8 @@ wrote-both a b v u r o q p h k =
     let f : is_over r ≡ (is_over u || (b.deep || ltb (length o) (size_of u + length b.bytes))) =
     k.over ∙ ap (λ z. is_over u || (b.deep || ltb z (size_of u + length b.bytes))) h.size in
     record {
-      unknown = fault-then 64 a.faults b.faults v.unknown u.unknown r.unknown h.unknown k.unknown;
-      uneven = fault-then 65 a.faults b.faults v.uneven u.uneven r.uneven h.uneven k.uneven;
+      unknown = fault-then 64 a.faults b.faults v.faults.unknown u.faults.unknown r.faults.unknown h.unknown k.unknown;
+      uneven = fault-then 65 a.faults b.faults v.faults.uneven u.faults.uneven r.faults.uneven h.uneven k.uneven;
       over =
           over-then (is_over v) a.deep b.deep (length o) n (length b.bytes) (size_of u) (is_over u) (is_over r) h.over (λ z. (h.within z).0) f
           ∙ ap (λ z. is_over v || ((a.deep || b.deep) || ltb (length o) z)) e;
@@ -90,8 +85,8 @@ wrote-more a b v u r o q p h k = wrote-both (just a) (just b) v u r o q p h k
 pub wrote_none : (v : Written) (o : List ℕ) → size_of v ≤ length o → Wrote (just []) v v o o
 wrote_none v o l =
     record {
-      unknown = lower-none-right v.unknown;
-      uneven = lower-none-right v.uneven;
+      unknown = lower-none-right v.faults.unknown;
+      uneven = lower-none-right v.faults.uneven;
       over = last (is_over v) (ltb (length o) (size_of v + 0)) (le-ltb (length o) (size_of v + 0) (omega arith));
       size = refl;
       within = λ z. (omega arith, sym (append-nil (take (size_of v) o)));
@@ -106,8 +101,8 @@ wrote_none v o l =
 pub wrote-over : (w : Writing) (v : Written) (o : List ℕ) → size_of v ≤ length o → is_over v ≡ true → w.faults ≡ [] → Wrote w v v o o
 wrote-over w v o l e f =
     record {
-      unknown = lower-none-right v.unknown ∙ ap (λ fs. lower v.unknown (fault_of (places_of 64 fs))) (sym f);
-      uneven = lower-none-right v.uneven ∙ ap (λ fs. lower v.uneven (fault_of (places_of 65 fs))) (sym f);
+      unknown = lower-none-right v.faults.unknown ∙ ap (λ fs. lower v.faults.unknown (fault_of (places_of 64 fs))) (sym f);
+      uneven = lower-none-right v.faults.uneven ∙ ap (λ fs. lower v.faults.uneven (fault_of (places_of 65 fs))) (sym f);
       over = e ∙ sym (ap (λ b. b || (w.deep || ltb (length o) (size_of v + length w.bytes))) e);
       size = refl;
       within = λ z. absurd (true≢false (sym e ∙ z));
@@ -115,15 +110,15 @@ wrote-over w v o l e f =
     }
 
 -- bytes behind those that are there, and no room for them
-module _ (w o : List ℕ) (v r : Written) (e : is_over v ≡ false) (count : size_of v ≤ length o) (f : r.unknown ≡ v.unknown) (g : r.uneven ≡ v.uneven) where
+module _ (w o : List ℕ) (v r : Written) (e : is_over v ≡ false) (count : size_of v ≤ length o) (f : r.faults.unknown ≡ v.faults.unknown) (g : r.faults.uneven ≡ v.faults.uneven) where
   pub wrote-put : (p : List ℕ) → size_of v + length w ≤ length o → size_of r ≡ size_of v + length w → is_over r ≡ false
       → p ≡ take (size_of v) o ++ (w ++ drop (size_of v + length w) o) → Wrote (just w) v r o p
   wrote-put p l n z h =
       let m : length (take (size_of v) o) ≡ (size_of v) = length-take-le (size_of v) o count in
       let x : size_of r ≡ length (take (size_of v) o ++ w) = n ∙ simp length-append (omega arith) in
       record {
-        unknown = f ∙ lower-none-right v.unknown;
-        uneven = g ∙ lower-none-right v.uneven;
+        unknown = f ∙ lower-none-right v.faults.unknown;
+        uneven = g ∙ lower-none-right v.faults.uneven;
         over = z ∙ sym (ap (λ b. b || ltb (length o) (size_of v + length w)) e ∙ le-ltb (length o) (size_of v + length w) l);
         size = ap length h ∙ simp (length-append, length-take, length-drop) (omega arith);
         within = λ y. (
@@ -137,8 +132,8 @@ module _ (w o : List ℕ) (v r : Written) (e : is_over v ≡ false) (count : siz
   pub wrote-full : length o < size_of v + length w → size_of r ≤ length o → is_over r ≡ true → Wrote (just w) v r o o
   wrote-full l n z =
       record {
-        unknown = f ∙ lower-none-right v.unknown;
-        uneven = g ∙ lower-none-right v.uneven;
+        unknown = f ∙ lower-none-right v.faults.unknown;
+        uneven = g ∙ lower-none-right v.faults.uneven;
         over = z ∙ sym (ap (λ b. b || ltb (length o) (size_of v + length w)) e ∙ lt-ltb (length o) (size_of v + length w) l);
         size = refl;
         within = λ y. absurd (true≢false (sym z ∙ y));

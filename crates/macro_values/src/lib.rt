@@ -7,19 +7,16 @@ ghost use Rattle.macro_code.specs.Code.{given_in, arguments_in};
 ghost use Rattle.macro_code.specs.Places.{half};
 ghost use Rattle.macros.specs.Expansion.{just, filled_in};
 ghost use Rattle.macro_values.specs.Values.{own, ArgumentOf, Above};
-ghost use Rattle.macro_values.specs.Wrote.{size_of, none, Wrote};
+ghost use Rattle.macro_values.specs.Wrote.{size_of, none, with_faults, Wrote};
 
-use macro_code::{CodePlaces, Coded, Given, argument_cell};
-use statements::Fault;
+use macro_code::{CodePlaces, Coded, Faults, Given, argument_cell};
 
 // What is written: how many bytes, none if there is no room for all, or if a call is too deep; and the faults of 64 and of 65 that are met.
-// The two faults are no `Faults` of `macro_calls`: each is met alone, so that where one is lowered an update would stand within an update.
 // The row of bytes is lent beside it: of a struct with a `&mut` to the row, each function and each loop would have to say that it is still that row.
 #[derive(Clone, Copy, Debug, PartialEq, Eq)]
 pub struct Written {
     pub count: Option<usize>,
-    pub unknown: Fault,
-    pub uneven: Fault,
+    pub faults: Faults,
 }
 
 impl Written {
@@ -29,8 +26,17 @@ impl Written {
     {
         Written {
             count: Some(0),
-            unknown: None,
-            uneven: None,
+            faults: Faults::NONE,
+        }
+    }
+
+    // The same, where more is at fault.
+    pub fn and_faults(self, more: Faults) -> Written
+        ensures { result ≡ with_faults self more }
+    {
+        Written {
+            faults: self.faults.and(more),
+            ..self
         }
     }
 
@@ -97,10 +103,7 @@ impl<'a, 'b> Around<'a, 'b> {
         ensures { ArgumentOf self.now.coded.code.now self.now.calls.now d k result }
     {
         let call = cell_at(self.calls, d.checked_sub(1)?);
-        if k < self.coded.low(call + CodePlaces::KIND) {
-            return Some(argument_cell(call, k));
-        }
-        None
+        (k < self.coded.low(call + CodePlaces::KIND)).then_some(argument_cell(call, k))
     }
 
     // The argument of the last of `d` calls that the parameter of a name or an argument stands for.

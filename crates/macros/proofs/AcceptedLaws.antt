@@ -16,13 +16,14 @@ use Rattle.macros.specs.Marks.{byte_at, has_macros, items_in, whole_questions}
 use Rattle.macros.specs.Elements.{Element, is_word, is_end, is_mark, is_star, is_open, is_close, is_bracket, is_identifier, places_in, elements, until, from, stretches}
 use Rattle.macros.specs.Pieces.{Piece, Change, word_changes, call_changes, stretch_changes, changes, section_changes, pieces_from, joins_well, is_stray, is_misplaced, called_faults, form_faults}
 use Rattle.macros.specs.Macros.{Macro, has_body, from_statement, first_statement, behind_first, from_list, section, header, header_words, body_of, body_start, body_stop, macro_of, macros_in, definition_faults, ending_faults, place_faults, macro_list_faults, list_change, section_pieces}
+use Rattle.macros.specs.Conditions.{outer, bodiless}
 use Rattle.macros.specs.Expansion.{places_of}
 use Rattle.macros.specs.Prepared.{all_faults, listed, section_of, bytes_out, places_out, macro_questions, written_out, unless_unfit, prepared}
 use Rattle.macros.specs.Prepared.Prepared.{ready}
 use Rattle.macros.specs.Cleanness.{clean_piece, clean_macro}
 use Rattle.macros.proofs.PlaceLaws.{joined-stretches, ends_with, Ended, stretches-end}
 use Rattle.macros.proofs.SortLaws.{mark-sort}
-use Rattle.macros.proofs.OrderLaws.{ends-behind}
+use Rattle.macros.proofs.OrderLaws.{list_stop, ends-behind}
 use Rattle.macros.proofs.ShapeLaws.{yes-behind, yes-none}
 use Rattle.macros.proofs.PlainLaws.{pieces-plain}
 use Rattle.macros.proofs.TileLaws.{Gap, gap-none, gap-joined, edge, past, Tile, Tiled, passes, elements-tile}
@@ -265,22 +266,19 @@ macros-more : (ms ns : List Macro) → T (all clean_macro ms) → T (all clean_m
 macros-more [] ns h k = k
 macros-more (m ∷ ms) ns h k = T-both (clean_macro m) (all clean_macro (ms ++ ns)) (T-left (clean_macro m) (all clean_macro ms) h) (macros-more ms ns (T-right (clean_macro m) (all clean_macro ms) h) k)
 
-abbrev pub ends_list : List Element → Bool
-ends_list x = not (has_body x)
-
-definitions-clean : (s : List ℕ) (lo : ℕ) (xs : List (List Element)) → each definition_faults (until ends_list xs) ≡ [] → Tiled s (length s) lo (joined xs)
-    → T (all clean_macro (each (macro_of s) (until ends_list xs)))
+definitions-clean : (s : List ℕ) (lo : ℕ) (xs : List (List Element)) → each definition_faults (until bodiless xs) ≡ [] → Tiled s (length s) lo (joined xs)
+    → T (all clean_macro (each (macro_of s) (until bodiless xs)))
 definitions-clean s lo [] z h = tt
 definitions-clean s lo (x ∷ xs) z h =
     let r = tiled-right s (length s) lo x (joined xs) h in
     go (has_body x) refl z (λ k. definitions-clean s r.0 xs k r.1)
   where
-    go : (b : Bool) → has_body x ≡ b → each definition_faults (take (elim (not b) [ true ↦ 0 | false ↦ suc (ahead ends_list xs) ]) (x ∷ xs)) ≡ []
-        → (each definition_faults (until ends_list xs) ≡ [] → T (all clean_macro (each (macro_of s) (until ends_list xs))))
-        → T (all clean_macro (each (macro_of s) (take (elim (not b) [ true ↦ 0 | false ↦ suc (ahead ends_list xs) ]) (x ∷ xs))))
+    go : (b : Bool) → has_body x ≡ b → each definition_faults (take (elim (not b) [ true ↦ 0 | false ↦ suc (ahead bodiless xs) ]) (x ∷ xs)) ≡ []
+        → (each definition_faults (until bodiless xs) ≡ [] → T (all clean_macro (each (macro_of s) (until bodiless xs))))
+        → T (all clean_macro (each (macro_of s) (take (elim (not b) [ true ↦ 0 | false ↦ suc (ahead bodiless xs) ]) (x ∷ xs))))
     go true e k r =
-        let parts = none_both (definition_faults x) (each definition_faults (until ends_list xs)) k in
-        macros-more (macro_of s x) (each (macro_of s) (until ends_list xs)) (macro-clean s x (definition-clean s lo x (joined xs) (truth (has_body x) e) parts.0 h))
+        let parts = none_both (definition_faults x) (each definition_faults (until bodiless xs)) k in
+        macros-more (macro_of s x) (each (macro_of s) (until bodiless xs)) (macro-clean s x (definition-clean s lo x (joined xs) (truth (has_body x) e) parts.0 h))
         (r parts.1)
     go false e k r = tt
 
@@ -302,30 +300,25 @@ ends-solid [] h = tt
 ends-solid (t ∷ ts) h =
     T-both (solid t) (all solid ts) (end-solid t (T-left (not (not (is_end t))) (all (λ u. not (not (is_end u))) ts) h)) (ends-solid ts (T-right (not (not (is_end t))) (all (λ u. not (not (is_end u))) ts) h))
 
-at_fault : Element → Bool
-at_fault t = is_star t || is_stray [] t
-
-no-stars : (ts : List Element) → places_in (keep at_fault ts) ≡ [] → T (all (λ t. not (is_star t)) ts)
-unfolding at_fault
+no-stars : (ts : List Element) → places_in (keep outer ts) ≡ [] → T (all (λ t. not (is_star t)) ts)
 no-stars [] h = tt
 no-stars (t ∷ ts) h =
-    let k = kept-none at_fault t ts h in
+    let k = kept-none outer t ts h in
     T-both (not (is_star t)) (all (λ u. not (is_star u)) ts) (rw (or_parts (is_star t) (is_stray [] t) k.0).0 tt) (no-stars ts k.1)
 
-not-stray : (t : Element) → at_fault t ≡ false → is_stray [] t ≡ false
-unfolding at_fault
+not-stray : (t : Element) → outer t ≡ false → is_stray [] t ≡ false
 not-stray t h = (or_parts (is_star t) (is_stray [] t) h).1
 
 halves : (s : List ℕ) (p : Element → Bool) (hi lo : ℕ) (x : List Element) → Tiled s hi lo x → Tiled s hi lo (until p x ++ from p x)
 halves s p hi lo x h = subst (λ (ts : List Element). Tiled s hi lo ts) (sym (split p x)) h
 
-lead : (s : List ℕ) (hi : ℕ) (ts : List Element) → places_in (keep at_fault (first_statement ts)) ≡ [] → Tiled s hi 0 ts → Skipped s hi 0 (behind_first ts)
+lead : (s : List ℕ) (hi : ℕ) (ts : List Element) → places_in (keep outer (first_statement ts)) ≡ [] → Tiled s hi 0 ts → Skipped s hi 0 (behind_first ts)
 lead s hi ts z h =
     let one = skip s hi 0 0 (until (λ t. not (is_end t)) ts) (from_statement ts) (ends-solid (until (λ t. not (is_end t)) ts) (all-until (λ t. not (is_end t)) ts)) (gap-none s 0)
     (halves s (λ t. not (is_end t)) hi 0 ts h) in
     let first = halves s is_end hi one.0 (from_statement ts) one.2 in
     let two = skip s hi 0 one.0 (first_statement ts) (from is_end (from_statement ts))
-    (all-solid (first_statement ts) (all_stay s [] at_fault not-stray hi one.0 (first_statement ts) (from is_end (from_statement ts)) (no-stars (first_statement ts) z) z first)) one.1 first in
+    (all-solid (first_statement ts) (all_stay s [] outer not-stray hi one.0 (first_statement ts) (from is_end (from_statement ts)) (no-stars (first_statement ts) z) z first)) one.1 first in
     skip s hi 0 two.0 (until (λ t. not (is_end t)) (from is_end (from_statement ts))) (behind_first ts)
     (ends-solid (until (λ t. not (is_end t)) (from is_end (from_statement ts))) (all-until (λ t. not (is_end t)) (from is_end (from_statement ts)))) two.1
     (halves s (λ t. not (is_end t)) hi two.0 (from is_end (from_statement ts)) two.2)
@@ -355,11 +348,8 @@ unfolding form_faults
 calls-clean s hi lo ts z h =
     section-clean s hi lo lo (stretches is_end ts) (stretches-end is_end ts) (stretches-only is_end ts) z (gap-none s lo) (rw (joined-stretches is_end ts) h)
 
-abbrev stops_at : ℕ → List (List Element) → ℕ
-stops_at hi xs = if_any hi (λ u. u.at + 1) (from is_close (head_or [] xs))
-
 after_list : (s : List ℕ) (hi lo : ℕ) (xs : List (List Element)) → T (any is_close (head_or [] xs)) → AllOnly is_close xs → form_faults (is_stray []) [] (joined (drop 1 xs)) ≡ []
-    → Tiled s hi lo (joined xs) → Clean (pieces_from s (stops_at hi xs) hi (section_changes hi (joined (drop 1 xs))))
+    → Tiled s hi lo (joined xs) → Clean (pieces_from s (list_stop hi xs) hi (section_changes hi (joined (drop 1 xs))))
 after_list s hi lo [] a o z h = absurd a
 after_list s hi lo (x ∷ ys) a o z h = go (from is_close x) refl (only-from is_close x o.0) (cut-tiles s is_close hi lo x (joined ys) h)
   where
@@ -373,16 +363,16 @@ after_list s hi lo (x ∷ ys) a o z h = go (from is_close x) refl (only-from is_
 abbrev pub ending_of : List Element → List ℕ
 ending_of fl =
     let xs = stretches is_close (drop 1 fl) in
-    let x = head_or [] (from ends_list xs) in
+    let x = head_or [] (from bodiless xs) in
     places_in (keep (λ t. not (is_identifier t || eqb t.byte 10)) (until is_close x))
     ++ places_in (take 1 (keep is_word x))
-    ++ cond (any is_close x && (filled (until ends_list xs) || any (λ t. not (is_close t || eqb t.byte 10)) x)) [] (places_in (take 1 fl))
+    ++ cond (any is_close x && (filled (until bodiless xs) || any (λ t. not (is_close t || eqb t.byte 10)) x)) [] (places_in (take 1 fl))
 
-ending-closed : (t : Element) (us : List Element) → ending_of (t ∷ us) ≡ [] → T (any is_close (head_or [] (from ends_list (stretches is_close us))))
+ending-closed : (t : Element) (us : List Element) → ending_of (t ∷ us) ≡ [] → T (any is_close (head_or [] (from bodiless (stretches is_close us))))
 ending-closed t us h =
     let xs = stretches is_close us in
-    let x = head_or [] (from ends_list xs) in
-    let filling = filled (until ends_list xs) || any (λ u. not (is_close u || eqb u.byte 10)) x in
+    let x = head_or [] (from bodiless xs) in
+    let filling = filled (until bodiless xs) || any (λ u. not (is_close u || eqb u.byte 10)) x in
     go (any is_close x) filling
     (none_both (places_in (keep (λ u. not (is_identifier u || eqb u.byte 10)) (until is_close x)) ++ places_in (take 1 (keep is_word x)))
     (cond (any is_close x && filling) [] (t.at ∷ [])) h).1
@@ -393,47 +383,47 @@ ending-closed t us h =
 
 -- a list of macros without a fault: none in its definitions, none at its end, and what stands before its first element
 list-opens : (s : List ℕ) (ts : List Element) (t : Element) (us : List Element) → from_list ts ≡ t ∷ us
-    → ((places_in (keep at_fault (first_statement ts)) ++ places_in (keep (λ u. not (is_end u)) (take 1 (section ts))))
-    ++ each definition_faults (until ends_list (stretches is_close us))) ++ ending_of (t ∷ us) ≡ []
-    → Tiled s (length s) 0 ts → (each definition_faults (until ends_list (stretches is_close us)) ≡ []) × (ending_of (t ∷ us) ≡ []) × Skipped s (length s) 0 (t ∷ us)
+    → ((places_in (keep outer (first_statement ts)) ++ places_in (keep (λ u. not (is_end u)) (take 1 (section ts))))
+    ++ each definition_faults (until bodiless (stretches is_close us))) ++ ending_of (t ∷ us) ≡ []
+    → Tiled s (length s) 0 ts → (each definition_faults (until bodiless (stretches is_close us)) ≡ []) × (ending_of (t ∷ us) ≡ []) × Skipped s (length s) 0 (t ∷ us)
 list-opens s ts t us e f h =
-    let first = places_in (keep at_fault (first_statement ts)) in
+    let first = places_in (keep outer (first_statement ts)) in
     let second = places_in (keep (λ u. not (is_end u)) (take 1 (section ts))) in
     let xs = stretches is_close us in
-    let all_but = none_both ((first ++ second) ++ each definition_faults (until ends_list xs)) (ending_of (t ∷ us)) f in
-    let lists = none_both (first ++ second) (each definition_faults (until ends_list xs)) all_but.0 in
+    let all_but = none_both ((first ++ second) ++ each definition_faults (until bodiless xs)) (ending_of (t ∷ us)) f in
+    let lists = none_both (first ++ second) (each definition_faults (until bodiless xs)) all_but.0 in
     let before = lead s (length s) ts (none_both first second lists.0).0 h in
     (lists.1, all_but.1, subst (λ (vs : List Element). Skipped s (length s) 0 vs) (list_is (behind_first ts) t us e).0 before)
 
 section-fine : (s : List ℕ) (ts : List Element) → macro_list_faults ts ≡ [] → form_faults (is_stray []) [] (section ts) ≡ [] → Tiled s (length s) 0 ts → Clean (section_pieces s ts)
-unfolding macro_list_faults place_faults ending_faults list_change at_fault
+unfolding macro_list_faults place_faults ending_faults list_change
 section-fine s ts y z h = go (from_list ts) refl y z
   where
     go : (fl : List Element) → from_list ts ≡ fl
-        → cond (filled (take 1 fl)) ((places_in (keep at_fault (first_statement ts)) ++ places_in (keep (λ t. not (is_end t)) (take 1 (section ts))))
-        ++ each definition_faults (until ends_list (stretches is_close (drop 1 fl))) ++ ending_of fl) [] ≡ []
-        → form_faults (is_stray []) [] (cond (filled (take 1 fl)) (joined (drop 1 (from ends_list (stretches is_close (drop 1 fl))))) ts) ≡ []
+        → cond (filled (take 1 fl)) ((places_in (keep outer (first_statement ts)) ++ places_in (keep (λ t. not (is_end t)) (take 1 (section ts))))
+        ++ each definition_faults (until bodiless (stretches is_close (drop 1 fl))) ++ ending_of fl) [] ≡ []
+        → form_faults (is_stray []) [] (cond (filled (take 1 fl)) (joined (drop 1 (from bodiless (stretches is_close (drop 1 fl))))) ts) ≡ []
         → Clean (pieces_from s 0 (length s)
-        (map (λ t. record { start = t.at; stop = stops_at (length s) (from ends_list (stretches is_close (drop 1 fl))); pieces = [] }) (take 1 fl)
-        ++ section_changes (length s) (cond (filled (take 1 fl)) (joined (drop 1 (from ends_list (stretches is_close (drop 1 fl))))) ts)))
+        (map (λ t. record { start = t.at; stop = list_stop (length s) (from bodiless (stretches is_close (drop 1 fl))); pieces = [] }) (take 1 fl)
+        ++ section_changes (length s) (cond (filled (take 1 fl)) (joined (drop 1 (from bodiless (stretches is_close (drop 1 fl))))) ts)))
     go [] e f k = calls-clean s (length s) 0 ts k h
     go (t ∷ us) e f k =
         let xs = stretches is_close us in
         let (lists, ending, before) = list-opens s ts t us e f h in
         let here = before.2 in
-        let inside = drop-tiles s (length s) (past t) (ahead ends_list xs) xs (rw (joined-stretches is_close us) here.2) in
-        change-clean s (length s) 0 (record { start = t.at; stop = stops_at (length s) (from ends_list xs); pieces = [] })
-        (section_changes (length s) (joined (drop 1 (from ends_list xs)))) (gap-joined s 0 before.0 t.at before.1 here.0) tt
-        (after_list s (length s) inside.0 (from ends_list xs) (ending-closed t us ending) (drop-only is_close (ahead ends_list xs) xs (stretches-only is_close us)) k inside.1)
+        let inside = drop-tiles s (length s) (past t) (ahead bodiless xs) xs (rw (joined-stretches is_close us) here.2) in
+        change-clean s (length s) 0 (record { start = t.at; stop = list_stop (length s) (from bodiless xs); pieces = [] })
+        (section_changes (length s) (joined (drop 1 (from bodiless xs)))) (gap-joined s 0 before.0 t.at before.1 here.0) tt
+        (after_list s (length s) inside.0 (from bodiless xs) (ending-closed t us ending) (drop-only is_close (ahead bodiless xs) xs (stretches-only is_close us)) k inside.1)
 
 macros-fine : (s : List ℕ) (ts : List Element) → macro_list_faults ts ≡ [] → Tiled s (length s) 0 ts → T (all clean_macro (macros_in s ts))
-unfolding macro_list_faults place_faults ending_faults macros_in at_fault stretches
+unfolding macro_list_faults place_faults ending_faults macros_in stretches
 macros-fine s ts y h = go (from_list ts) refl y
   where
     go : (fl : List Element) → from_list ts ≡ fl
-        → cond (filled (take 1 fl)) ((places_in (keep at_fault (first_statement ts)) ++ places_in (keep (λ t. not (is_end t)) (take 1 (section ts))))
-        ++ each definition_faults (until ends_list (stretches is_close (drop 1 fl))) ++ ending_of fl) [] ≡ []
-        → T (all clean_macro (each (macro_of s) (until ends_list (stretches is_close (drop 1 fl)))))
+        → cond (filled (take 1 fl)) ((places_in (keep outer (first_statement ts)) ++ places_in (keep (λ t. not (is_end t)) (take 1 (section ts))))
+        ++ each definition_faults (until bodiless (stretches is_close (drop 1 fl))) ++ ending_of fl) [] ≡ []
+        → T (all clean_macro (each (macro_of s) (until bodiless (stretches is_close (drop 1 fl)))))
     go [] e f = tt
     go (t ∷ us) e f =
         let (lists, ending, before) = list-opens s ts t us e f h in

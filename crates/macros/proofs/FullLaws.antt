@@ -16,11 +16,12 @@ use Rattle.macros.specs.Pieces.{Change, given_of, is_parameter, number_of, joins
 use Rattle.macros.specs.Pieces.Given.{typed, parameter, joined as joined_to}
 use Rattle.macros.specs.Pieces.Piece.{value, called}
 use Rattle.macros.specs.Macros.{has_body, behind_first, from_list, header, header_words, body_of, body_start, body_stop, macro_of, macros_in, definition_faults, definitions, ending_faults, place_faults, macro_list_faults}
+use Rattle.macros.specs.Conditions.{bodiless}
 use Rattle.macros.specs.Prepared.{listed, macro_questions}
 use Rattle.macros.specs.Silence.{full_given, full_piece, full_macro}
 use Rattle.macros.proofs.PlaceLaws.{joined-stretches}
 use Rattle.macros.proofs.TileLaws.{past, Tiled}
-use Rattle.macros.proofs.AcceptedLaws.{none_both, kept-none, form_of, ends_list, stray-of, body_pieces, accepted-fine}
+use Rattle.macros.proofs.AcceptedLaws.{none_both, kept-none, form_of, stray-of, body_pieces, accepted-fine}
 
 -- Lists
 
@@ -176,17 +177,17 @@ definition-full s x h = go (take 1 (header_words x))
         T-both (all (full_piece (length (drop 1 (header_words x)))) (body_pieces s x))
         (all full_macro (map (λ v. record { name = v; params = drop 1 (header_words x); body = body_pieces s x }) ws)) h (go ws)
 
-definitions-full : (s : List ℕ) (xs : List (List Element)) → T (all typed_full (joined xs)) → each definition_faults (until ends_list xs) ≡ []
-    → T (all full_macro (each (macro_of s) (until ends_list xs)))
+definitions-full : (s : List ℕ) (xs : List (List Element)) → T (all typed_full (joined xs)) → each definition_faults (until bodiless xs) ≡ []
+    → T (all full_macro (each (macro_of s) (until bodiless xs)))
 definitions-full s [] h z = tt
 definitions-full s (x ∷ xs) h z = go (has_body x) z (λ k. definitions-full s xs (all_right typed_full x (joined xs) h) k)
   where
-    go : (b : Bool) → each definition_faults (take (elim (not b) [ true ↦ 0 | false ↦ suc (ahead ends_list xs) ]) (x ∷ xs)) ≡ []
-        → (each definition_faults (until ends_list xs) ≡ [] → T (all full_macro (each (macro_of s) (until ends_list xs))))
-        → T (all full_macro (each (macro_of s) (take (elim (not b) [ true ↦ 0 | false ↦ suc (ahead ends_list xs) ]) (x ∷ xs))))
+    go : (b : Bool) → each definition_faults (take (elim (not b) [ true ↦ 0 | false ↦ suc (ahead bodiless xs) ]) (x ∷ xs)) ≡ []
+        → (each definition_faults (until bodiless xs) ≡ [] → T (all full_macro (each (macro_of s) (until bodiless xs))))
+        → T (all full_macro (each (macro_of s) (take (elim (not b) [ true ↦ 0 | false ↦ suc (ahead bodiless xs) ]) (x ∷ xs))))
     go true k f =
-        let parts = none_both (definition_faults x) (each definition_faults (until ends_list xs)) k in
-        all_append full_macro (macro_of s x) (each (macro_of s) (until ends_list xs))
+        let parts = none_both (definition_faults x) (each definition_faults (until bodiless xs)) k in
+        all_append full_macro (macro_of s x) (each (macro_of s) (until bodiless xs))
         (definition-full s x (body-full s x (all_left typed_full x (joined xs) h) parts.0)) (f parts.1)
     go false k f = tt
 
@@ -195,11 +196,11 @@ sound-definitions : (ts : List Element) → macro_list_faults ts ≡ [] → each
 unfolding macro_list_faults stretches
 sound-definitions ts y = go (from_list ts) y
   where
-    go : (fl : List Element) → cond (filled (take 1 fl)) (place_faults ts ++ each definition_faults (until ends_list (stretches is_close (drop 1 fl))) ++ ending_faults ts) [] ≡ []
-        → each definition_faults (until ends_list (stretches is_close (drop 1 fl))) ≡ []
+    go : (fl : List Element) → cond (filled (take 1 fl)) (place_faults ts ++ each definition_faults (until bodiless (stretches is_close (drop 1 fl))) ++ ending_faults ts) [] ≡ []
+        → each definition_faults (until bodiless (stretches is_close (drop 1 fl))) ≡ []
     go [] f = refl
     go (t ∷ us) f =
-        let defs = each definition_faults (until ends_list (stretches is_close us)) in
+        let defs = each definition_faults (until bodiless (stretches is_close us)) in
         (none_both (place_faults ts) defs (none_both (place_faults ts ++ defs) (ending_faults ts) f).0).1
 
 pub all-from-list : (p : Element → Bool) (ts : List Element) → T (all p ts) → T (all p (from_list ts))

@@ -186,7 +186,7 @@ stretches-drop p (suc k) lo hi [] h e = (h, e)
 stretches-drop p (suc k) lo hi (x ∷ []) h e = stretches-drop p k lo hi [] tt tt
 stretches-drop p (suc k) lo hi (x ∷ (y ∷ ys)) h e = stretches-drop p k lo hi (y ∷ ys) (ascending-right lo hi x (joined (y ∷ ys)) h) e.1
 
-abbrev list_stop : ℕ → List (List Element) → ℕ
+abbrev pub list_stop : ℕ → List (List Element) → ℕ
 list_stop hi xs = if_any hi (λ u. u.at + 1) (from is_close (head_or [] xs))
 
 list-stops : (at hi : ℕ) (xs : List (List Element)) → at < hi → Ascending (suc at) hi (places_in (joined xs)) → Ended is_close xs

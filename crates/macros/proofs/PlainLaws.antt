@@ -5,13 +5,14 @@ use Rattle.syntax.specs.Below.Lists.{all, any, among, each}
 use Rattle.syntax.specs.Below.ListLaws.{T-left, T-right, T-both, all_head, all_tail}
 use Rattle.syntax.specs.Below.Quoted.{bytes}
 use Rattle.syntax.specs.Below.Characters.{is_capital, is_digit}
-use Rattle.syntax.specs.Items.{Sort, sort_of, same_sort, Item, is, a_word, a_text, a_mark, ends_text, takes_next, char_of, allows, Stage, Mode, opens, begins, itself, mode_after, items_at, left_over, read}
+use Rattle.syntax.specs.Items.{Sort, sort_of, same_sort, a_word, a_text, a_mark, ends_text, takes_next, char_of, allows, Stage, Mode, opens, begins, itself, mode_after, items_at, left_over, read}
 use Rattle.syntax.specs.Items.Sort.{separator, word, colon, end, text, wrong}
 use Rattle.syntax.specs.Items.Stage.{first-star, inside, last-slash}
 use Rattle.syntax.specs.Items.Mode.{outside, in_word, in_comment, in_text}
 use Rattle.macros.specs.Marks.{byte_at, has_macros}
 use Rattle.macros.specs.Pieces.{Piece}
 use Rattle.macros.specs.Macros.{Macro}
+use Rattle.macros.specs.Conditions.{is_macros}
 use Rattle.macros.specs.Expansion.{levels}
 use Rattle.macros.specs.Prepared.{writes, listed, section_of, bytes_out}
 use Rattle.macros.specs.Cleanness.{Stand, free_after, stand_after, is_unmarked, stands_well, unmarked, stand_at_end, is_free, clean, clean_piece, clean_macro}
@@ -165,10 +166,7 @@ step-agrees (quoted star) m b n next h = quoted-agrees star m b n next h
 
 -- No item of clean bytes is a star or a bracket
 
-abbrev is_marked : List ℕ → Item → Bool
-is_marked s i = is wrong i && among (byte_at s i.at) (bytes "*()")
-
-itself-unmarked : (s : List ℕ) (k : Sort) (n b next : ℕ) → byte_at s n ≡ b → T (is_unmarked b) → any (is_marked s) (itself k n b next) ≡ false
+itself-unmarked : (s : List ℕ) (k : Sort) (n b next : ℕ) → byte_at s n ≡ b → T (is_unmarked b) → any (is_macros s) (itself k n b next) ≡ false
 unfolding itself
 itself-unmarked s separator n b next e h = refl
 itself-unmarked s word n b next e h = refl
@@ -181,53 +179,53 @@ itself-unmarked s wrong n b next e h = go (opens b next)
     not-true true z = absurd z
     not-true false z = refl
 
-    go : (t : Bool) → any (is_marked s) (cond t [] (a_mark wrong n ∷ [])) ≡ false
+    go : (t : Bool) → any (is_macros s) (cond t [] (a_mark wrong n ∷ [])) ≡ false
     go true = refl
     go false = rw e (not-true (among b (bytes "*()")) h)
 
-out-unmarked : (s : List ℕ) (m : Mode) (n b next : ℕ) → Out m → byte_at s n ≡ b → T (is_unmarked b) → any (is_marked s) (items_at m n b next) ≡ false
+out-unmarked : (s : List ℕ) (m : Mode) (n b next : ℕ) → Out m → byte_at s n ≡ b → T (is_unmarked b) → any (is_macros s) (items_at m n b next) ≡ false
 unfolding items_at
 out-unmarked s outside n b next o e h = itself-unmarked s (sort_of b) n b next e h
 out-unmarked s (in_word at w) n b next o e h = go (same_sort word (sort_of b))
   where
-    go : (t : Bool) → any (is_marked s) (cond t [] (a_word at w ∷ itself (sort_of b) n b next)) ≡ false
+    go : (t : Bool) → any (is_macros s) (cond t [] (a_word at w ∷ itself (sort_of b) n b next)) ≡ false
     go true = refl
     go false = itself-unmarked s (sort_of b) n b next e h
 out-unmarked s (in_comment at k) n b next o e h = absurd o
 out-unmarked s (in_text at star cs good) n b next o e h = absurd o
 
-comment-unmarked : (s : List ℕ) (k : Stage) (m : Mode) (n b next : ℕ) → Commented k m → any (is_marked s) (items_at m n b next) ≡ false
+comment-unmarked : (s : List ℕ) (k : Stage) (m : Mode) (n b next : ℕ) → Commented k m → any (is_macros s) (items_at m n b next) ≡ false
 unfolding items_at
 comment-unmarked s k outside n b next h = absurd h
 comment-unmarked s k (in_word at w) n b next h = absurd h
 comment-unmarked s k (in_comment at j) n b next h = refl
 comment-unmarked s k (in_text at star cs good) n b next h = absurd h
 
-quoted-unmarked : (s : List ℕ) (star : Bool) (m : Mode) (n b next : ℕ) → Quoted star m → any (is_marked s) (items_at m n b next) ≡ false
+quoted-unmarked : (s : List ℕ) (star : Bool) (m : Mode) (n b next : ℕ) → Quoted star m → any (is_macros s) (items_at m n b next) ≡ false
 unfolding items_at
 quoted-unmarked s star outside n b next h = absurd h
 quoted-unmarked s star (in_word at w) n b next h = absurd h
 quoted-unmarked s star (in_comment at k) n b next h = absurd h
 quoted-unmarked s star (in_text at r cs good) n b next h = go (ends_text r b) (eqb b 39)
   where
-    go : (t u : Bool) → any (is_marked s) (cond t (a_text at cs (good && u) ∷ cond u [] (a_mark end n ∷ [])) []) ≡ false
+    go : (t u : Bool) → any (is_macros s) (cond t (a_text at cs (good && u) ∷ cond u [] (a_mark end n ∷ [])) []) ≡ false
     go true true = refl
     go true false = refl
     go false u = refl
 
 step-unmarked : (s : List ℕ) (st : Stand) (m : Mode) (n b next : ℕ) → Agree st b m → byte_at s n ≡ b → T (stands_well st b)
-    → any (is_marked s) (items_at m n b next) ≡ false
+    → any (is_macros s) (items_at m n b next) ≡ false
 unfolding stands_well
 step-unmarked s free m n b next h e k = out-unmarked s m n b next h e k
 step-unmarked s slashed m n b next h e k = go (eqb b 42) h k
   where
-    go : (t : Bool) → either t (Commented first-star m) (Out m) → T (t || is_unmarked b) → any (is_marked s) (items_at m n b next) ≡ false
+    go : (t : Bool) → either t (Commented first-star m) (Out m) → T (t || is_unmarked b) → any (is_macros s) (items_at m n b next) ≡ false
     go true a z = comment-unmarked s first-star m n b next a
     go false a z = out-unmarked s m n b next a e z
 step-unmarked s commented m n b next h e k = comment-unmarked s inside m n b next h
 step-unmarked s starred m n b next h e k = go (eqb b 47) h
   where
-    go : (t : Bool) → either t (Commented last-slash m) (Commented inside m) → any (is_marked s) (items_at m n b next) ≡ false
+    go : (t : Bool) → either t (Commented last-slash m) (Commented inside m) → any (is_macros s) (items_at m n b next) ≡ false
     go true a = comment-unmarked s last-slash m n b next a
     go false a = comment-unmarked s inside m n b next a
 step-unmarked s (quoted star) m n b next h e k = quoted-unmarked s star m n b next h
@@ -248,7 +246,7 @@ here (suc n) [] b r e = let z : ◌≡◌ {A = ℕ} 0 1 = cc in absurd (omega ar
 here (suc n) (c ∷ s) b r e = rw add-one ((here n s b r e).0, rw add-one at (here n s b r e).1)
 
 -- what is left at the end, outside
-left-unmarked : (s : List ℕ) (st : Stand) (m : Mode) → T (is_free st) → Agree st 0 m → any (is_marked s) (left_over m) ≡ false
+left-unmarked : (s : List ℕ) (st : Stand) (m : Mode) → T (is_free st) → Agree st 0 m → any (is_macros s) (left_over m) ≡ false
 unfolding is_free left_over
 left-unmarked s free outside f a = refl
 left-unmarked s free (in_word at w) f a = refl
@@ -260,14 +258,14 @@ left-unmarked s starred m f a = absurd f
 left-unmarked s (quoted star) m f a = absurd f
 
 read-unmarked : (s : List ℕ) (st : Stand) (m : Mode) (n : ℕ) (r : List ℕ) → drop n s ≡ r → Agree st (get_or r 0 0) m → T (unmarked st r)
-    → T (is_free (stand_at_end st r)) → any (is_marked s) (read m n r) ≡ false
+    → T (is_free (stand_at_end st r)) → any (is_macros s) (read m n r) ≡ false
 unfolding read unmarked stand_at_end
 read-unmarked s st m n [] e a u f = left-unmarked s st m f a
 read-unmarked s st m n (b ∷ r) e a u f =
     let next = get_or r 0 0 in
     let at = here n s b r e in
     let well = T-left (stands_well st b) (unmarked (stand_after st b) r) u in
-    any-joined (is_marked s) (items_at m n b next) (read (mode_after m n b next) (n + 1) r)
+    any-joined (is_macros s) (items_at m n b next) (read (mode_after m n b next) (n + 1) r)
     (step-unmarked s st m n b next a at.0 well)
     (read-unmarked s (stand_after st b) (mode_after m n b next) (n + 1) r at.1 (step-agrees st m b n next a)
     (T-right (stands_well st b) (unmarked (stand_after st b) r) u) f)

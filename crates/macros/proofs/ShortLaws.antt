@@ -13,9 +13,10 @@ use Rattle.syntax.specs.Verdict.Verdict.{yes}
 use Rattle.macros.specs.Marks.{items_in, whole_questions}
 use Rattle.macros.specs.Elements.{Element, element_of, is_word, is_open, is_close, end_of, is_joined, link, linked, elements, stretches}
 use Rattle.macros.specs.Macros.{Macro, from_list, header, header_words, macro_of, macros_in}
+use Rattle.macros.specs.Conditions.{bodiless}
 use Rattle.macros.specs.Prepared.{listed}
 use Rattle.macros.proofs.PlaceLaws.{joined-stretches}
-use Rattle.macros.proofs.AcceptedLaws.{ends_list, unkept, yes-at, body_pieces}
+use Rattle.macros.proofs.AcceptedLaws.{unkept, yes-at, body_pieces}
 use Rattle.macros.proofs.FullLaws.{all_take, all_drop, all-from-list}
 
 abbrev short : List ℕ → Bool
@@ -103,7 +104,7 @@ listed-short s h =
     let ts = elements s in
     let inside = drop 1 (from_list ts) in
     let words = linked-short (map (element_of s) (items_in s)) (elements-short s (items_in s) (items-short (items_in s) (yes-at (whole_questions s) h 2))) in
-    definitions-short s (ahead ends_list (stretches is_close inside)) (stretches is_close inside)
+    definitions-short s (ahead bodiless (stretches is_close inside)) (stretches is_close inside)
     (rw (joined-stretches is_close inside) (all_drop short_word 1 (from_list ts) (all-from-list short_word ts words)))
 
 -- the same of one macro of the list

@@ -6,6 +6,7 @@ pub mod Marks
 pub mod Elements
 pub mod Pieces
 pub mod Macros
+pub mod Conditions
 pub mod Expansion
 pub mod Prepared
 pub mod Examples

@@ -10,7 +10,7 @@ loop-i-init c = let x = c.args.list.now in
 
 pub loop-i-preserved : goal.loop-i-preserved
 loop-i-preserved c = let x = c.args.list.now in
-    walking_on (macros_in x.coded.text.now x.coded.code.now x.firsts.now (length x.firsts.now)) x.coded.text.now x.coded.code.now c.args.q c.loop-i.invariant c.in-Some.ensures.steps c.change_faults.ensures c.both-faults.ensures
+    walking_on (macros_in x.coded.text.now x.coded.code.now x.firsts.now (length x.firsts.now)) x.coded.text.now x.coded.code.now c.args.q c.loop-i.invariant c.in-Some.ensures.steps c.change_faults.ensures c.and-faults.ensures
 
 pub returns : goal.returns
 returns c = let x = c.args.list.now in

@@ -1,5 +1,5 @@
 -- `macro_calls::find_singles` meets its contract.
-use Rattle.std.specs.Prelude.{◌≡◌, ℕ, ◌≤◌, ◌<◌, eqb, get_or, length}
+use Rattle.std.specs.Prelude.{◌≡◌, false, ℕ, ◌≤◌, ◌<◌, eqb, get_or, length}
 use Rattle.macros.specs.Expansion.{called_by}
 use Rattle.macro_code.specs.Code.{bytes_at, macros_in}
 use Rattle.macro_calls.proofs.find_singles.Given as goal
@@ -11,4 +11,4 @@ invariant-loop-k l =
     let c = x.coded.code.now in
     let f = x.firsts.now in
     (length f ≤ length l.singles)
-    × ((j : ℕ) → j < l.k → eqb (get_or l.singles j 0) 1 ≡ eqb (length (called_by (macros_in s c f (length f)) (bytes_at s c (get_or f j 0)))) 1)
+    × ((j : ℕ) → j < l.k → get_or l.singles j false ≡ eqb (length (called_by (macros_in s c f (length f)) (bytes_at s c (get_or f j 0)))) 1)

@@ -8,8 +8,8 @@ loop-first-init c = let x = c.args.list.now in bodies-first x.coded.text.now x.c
 
 pub loop-first-preserved : goal.loop-first-preserved
 loop-first-preserved c = let x = c.args.list.now in
-    bodies-on x.coded.text.now x.coded.code.now x.firsts.now (length x.firsts.now) c.loop-first.invariant c.from.ensures c.body_faults.ensures c.both-faults.ensures
+    bodies-on x.coded.text.now x.coded.code.now x.firsts.now (length x.firsts.now) c.loop-first.invariant c.from.ensures c.body_faults.ensures c.and-faults.ensures
 
 pub returns : goal.returns
 returns c = let x = c.args.list.now in
-    bodies-end x.coded.text.now x.coded.code.now x.firsts.now (length x.firsts.now) c.loop-first.invariant (omega arith) c.args.section c.body_faults-2.ensures c.both.ensures
+    bodies-end x.coded.text.now x.coded.code.now x.firsts.now (length x.firsts.now) c.loop-first.invariant (omega arith) c.args.section c.body_faults-2.ensures c.and.ensures

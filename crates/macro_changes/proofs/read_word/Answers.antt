@@ -13,13 +13,13 @@ is_wrong-requires c = c.requires.started.held
 pub returns-in_default : goal.returns-in_default
 returns-in_default c = word_none c.requires.started c.requires.plain c.answer_of-a.ensures _ c.is_wrong.ensures c.then_some.ensures (sym c.value_in.ensures ∙ c.in_default.is)
 
-pub put_two-requires : goal.put_two-requires
-put_two-requires c =
+pub put_change-requires : goal.put_change-requires
+put_change-requires c =
     let l = places-low c.requires.started c.requires.plain c.answer_of-a.ensures in
     record {
       room = omega (arith, room_word c.requires.started c.requires.plain c.answer_of-a.ensures);
       place = (rw c.replaced-start.ensures l.0, rw c.replaced-start.ensures l.1);
-      what = (omega arith, value_low c.requires.started c.requires.plain c.answer_of-a.ensures (sym c.value_in.ensures ∙ c.in-Some.is));
+      what = value_low c.requires.started c.requires.plain c.answer_of-a.ensures (sym c.value_in.ensures ∙ c.in-Some.is);
     }
 
 pub overflow_add-result : goal.overflow_add-result
@@ -27,5 +27,5 @@ overflow_add-result c = omega (arith, room_word c.requires.started c.requires.pl
 
 pub returns : goal.returns
 returns c =
-    rw (c.put_two.ensures, c.replaced-start.ensures)
+    rw (c.put_change.ensures, c.replaced-start.ensures)
     (word-one c.requires.started c.requires.plain c.answer_of-a.ensures (sym c.value_in.ensures ∙ c.in-Some.is) _ c.is_wrong.ensures c.then_some.ensures)

@@ -1,18 +1,12 @@
 -- `macro_loading::load_written` meets its contract.
-use native.Mathlib.Omega.{arith}
-use mathlib.Core.Path.{◌≡◌, sym}
+use mathlib.Core.Path.{◌≡◌}
 use Rattle.std.proofs.Common.{rules, Err}
-use lib.Seq.{length-take-le}
 use Rattle.macro_loading.proofs.Outcomes.{unfit-leaves, lent, ready-leaves}
 use Rattle.macro_loading.proofs.load_written.Goals as goal
 
-pub slice_bounds-names-end : goal.slice_bounds-names-end
-slice_bounds-names-end c =
-    sym (length-take-le 32768 c.prepare.new.code (omega (arith, c.prepare.ensures.code_size)))
-
 pub load_lined-requires : goal.load_lined-requires
 load_lined-requires c =
-    lent c.requires c.prepare.ensures c.in_ok-n.n c.in_ok-n.was (length-take-le 32768 c.prepare.new.code (omega (arith, c.prepare.ensures.code_size)))
+    lent c.requires c.prepare.ensures c.in_ok-n.n c.in_ok-n.was
 
 pub returns-in_err-n : goal.returns-in_err-n
 returns-in_err-n c =

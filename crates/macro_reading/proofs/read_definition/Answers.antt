@@ -17,6 +17,6 @@ read_body-r-requires c =
 
 pub returns : goal.returns
 returns c =
-    rw c.definition_fault.ensures
+    rw (c.definition_fault.ensures, c.then_some.ensures)
     (definition-done c.requires c.read_header-h.ensures (c.next_open.ensures.some c.in_ok-b.b c.in_ok-b.was)
     (rw c.saturating_sub.ensures at c.read_body-r.ensures))

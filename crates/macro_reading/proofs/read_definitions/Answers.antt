@@ -10,13 +10,12 @@ pub loop-r-init : goal.loop-r-init
 loop-r-init c = rw c.nothing-passed.ensures (listing_none c.requires)
 
 pub loop-r-smaller : goal.loop-r-smaller
-loop-r-smaller c = let z = c.read_definition.ensures.defining _ c.in-Some.is in rw c.and-passed.ensures (omega (arith, z.from_here, z.most, step-least c.in-Some.r.named))
+loop-r-smaller c = let z = c.read_definition.ensures.defining _ c.in-Some.is in rw c.and-passed.ensures (omega (arith, z.from_here, z.most, step-least (is_some c.in-Some.r.used)))
 
 pub loop-r-preserved : goal.loop-r-preserved
 loop-r-preserved c =
-    let k : c.from-k.result ≡ cond c.in-Some.r.named 1 0 = search rules in
-    let e : c.if-r.q ≡ cond c.in-Some.r.named c.in-Some.r.used c.loop-r.q = search rules in
-    rw (e, c.and-passed.ensures, k) (listing-on c.requires c.loop-r.invariant c.read_definition.ensures c.in-Some.is)
+    let k : c.from-k.result ≡ cond c.is_some.result 1 0 = search rules in
+    rw (c.unwrap_or-q.ensures, c.and-passed.ensures, k, c.is_some.ensures) (listing-on c.requires c.loop-r.invariant c.read_definition.ensures c.in-Some.is)
 
 pub returns : goal.returns
 returns c =
