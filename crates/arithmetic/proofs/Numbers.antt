@@ -1,13 +1,14 @@
 -- Whole numbers by their codes: signs and sizes, sums, products, quotients and remainders.
 use mathlib.Core.Path.{◌≡◌, refl, sym, ap, ◌∙◌}
-use mathlib.Core.Bool.{Bool, true, false, cond}
+use mathlib.Core.Bool.{Bool, true, false, cond, ◌&&◌, false≢true}
 use Prim.Native.Nat.{ℕ, zero, suc, ◌+◌, ◌-◌, ◌/◌, ◌%◌, ◌≤◌, ◌<◌}
 use native.Mathlib.Omega.{arith}
 use native.Mathlib.Nat.{div-le_self, mod-le}
-use lib.Dec.{ltb}
+use lib.Dec.{leb, ltb}
 use lib.IntN.{ℤ, pos, negsuc, nat_abs, neg_ℤ, sub_ℕ, ◌+ℤ◌}
 use lib.Signed.{quot_z, rem_z}
-use borrow.Author.Tests.{ltb-true, ltb-false, le-leb, lt-leb}
+use borrow.Author.Tests.{ltb-true, ltb-false, leb-true, le-leb, lt-leb}
+use Rattle.std.proofs.lemmas.Bool.{and_parts}
 use Rattle.layout.specs.CodeLaws.{uncode-most}
 use Rattle.language.specs.Values.{in_range}
 use Rattle.layout.specs.Cells.{code, uncode}
@@ -106,14 +107,26 @@ module _ {a b : ℕ} (h : Coded a b) where
   abbrev z : ℤ
   z = uncode a +ℤ uncode b
 
-  pub sum_low : a + b < 8388607 → InRange z (Err Range)
+  sum_low : a + b < 8388607 → InRange z (Err Range)
   sum_low l = out_of z (offset-low z (a + b) (coded-sum h) l)
 
-  pub sum-high : 25165821 < a + b → InRange z (Err Range)
+  sum-high : 25165821 < a + b → InRange z (Err Range)
   sum-high l = out_of z (offset-high z (a + b) (coded-sum h) l)
 
-  pub sum-in : 8388607 ≤ a + b → a + b ≤ 25165821 → InRange z (Ok ((a + b) - 8388607))
-  sum-in l m = let k = offset-in z (a + b) (coded-sum h) l m in in_it z (codes_of z k.0 k.1)
+  pub sum-in : (leb 8388607 (a + b) && leb (a + b) 25165821) ≡ true → InRange z (Ok ((a + b) - 8388607))
+  sum-in q =
+      let w = and_parts (leb 8388607 (a + b)) (leb (a + b) 25165821) q in
+      let k = offset-in z (a + b) (coded-sum h) (leb-true 8388607 (a + b) w.0) (leb-true (a + b) 25165821 w.1) in
+      in_it z (codes_of z k.0 k.1)
+
+  pub sum_out : (leb 8388607 (a + b) && leb (a + b) 25165821) ≡ false → InRange z (Err Range)
+  sum_out q = go (ltb (a + b) 8388607) (ltb 25165821 (a + b)) refl refl
+    where
+      go : (t u : Bool) → ltb (a + b) 8388607 ≡ t → ltb 25165821 (a + b) ≡ u → InRange z (Err Range)
+      go true u e f = sum_low (ltb-true (a + b) 8388607 e)
+      go false true e f = sum-high (ltb-true 25165821 (a + b) f)
+      go false false e f =
+          absurd (false≢true (sym (rw (le-leb 8388607 (a + b) (ltb-false (a + b) 8388607 e), le-leb (a + b) 25165821 (ltb-false 25165821 (a + b) f)) at q)))
 
 -- ---- differences
 

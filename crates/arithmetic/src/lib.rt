@@ -18,6 +18,13 @@ ghost use Rattle.arithmetic.specs.Arithmetic.{negative, signed, Coded, Divisible
 use components::{Amount, ZERO};
 use instructions::{Bench, Question, Source};
 
+// How much two numbers are.
+const TWO: Amount = Amount {
+    parts: 2,
+    bytes: 2 * Amount::SHORT.bytes,
+    chars: 0,
+};
+
 // What an instruction with one result makes of two numbers.
 #[derive(Clone, Copy, Debug, PartialEq, Eq)]
 pub enum Computed {
@@ -51,15 +58,13 @@ fn with_sign(minus: bool, n: usize) -> usize
     ZERO + n
 }
 
+// Two numbers and no `operands::Pair`: `difference` makes another second one, and a pair would be built to be taken apart.
 fn sum(a: usize, b: usize) -> Result<usize, Question>
     requires { Coded a b }
     ensures { InRange (uncode a +ℤ uncode b) result }
 {
     let s = a + b;
-    if s < ZERO {
-        return Err(Question::Range);
-    }
-    if 3 * ZERO < s {
+    if !(ZERO..=3 * ZERO).contains(&s) {
         return Err(Question::Range);
     }
     Ok(s - ZERO)
@@ -121,7 +126,7 @@ fn put_one(bench: &mut Bench, i: usize, code: usize) -> Result<(), Question>
         &mut bench.state,
         source,
         Amount::SHORT,
-        &bench.hold[..5],
+        &bench.hold[..Amount::SHORT.bytes],
         Amount::SHORT,
     )
 }
@@ -133,19 +138,14 @@ fn put_two(bench: &mut Bench, i: usize, first: usize, second: usize) -> Result<(
     ensures { Tried bench.old.state (told_by result) bench.new.state true (replaced true i (values.Component.number (uncode first) ∷ values.Component.number (uncode second) ∷ []) bench.old.state.store) }
 {
     components::put_number(&mut bench.hold, 0, first);
-    components::put_number(&mut bench.hold, 5, second);
+    components::put_number(&mut bench.hold, Amount::SHORT.bytes, second);
     let source = Source { removes: true, i };
-    let two = Amount {
-        parts: 2,
-        bytes: 10,
-        chars: 0,
-    };
     operands::replace(
         &mut bench.state,
         source,
         Amount::SHORT,
-        &bench.hold[..10],
-        two,
+        &bench.hold[..TWO.bytes],
+        TWO,
     )
 }
 

@@ -1,22 +1,25 @@
 // What a relation compares with: the components that its second argument offers, put beside.
 #![tactic(auto)]
 
-ghost use Rattle.std.specs.Prelude.{[], ◌∷◌, ◌<◌, ◌≤◌};
+ghost use Rattle.std.specs.Prelude.{[], ◌∷◌, ◌<◌, ◌≤◌, length};
 ghost use Rattle.language.specs.Limits as limit;
 ghost use Rattle.language.specs.Values as values;
 ghost use Rattle.machine.specs.Arguments.{needs};
 ghost use Rattle.layout.specs.Cells.{uncode};
+ghost use Rattle.layout.specs.Places.{row};
 ghost use Rattle.instructions.specs.Fronts.{front_part};
 ghost use Rattle.tests.specs.Prepares.{Beside, PutBeside};
 ghost use Rattle.comparands.specs.Offers.{LetterHoldable, Holdable, LetterOffers, ArgumentOffers};
 
+use components::Amount;
 use instructions::Question;
 use state::Working;
 use table::Table;
 
 // N: the first component of expression `i`, a number.
-fn put_count(state: &Working, given: &mut [u8; 32768], i: usize) -> Result<usize, Question>
-    requires { i < limit.expressions }
+fn put_count(state: &Working, given: &mut [u8], i: usize) -> Result<usize, Question>
+    requires index { i < limit.expressions }
+    requires room { row ≤ length given.old }
     ensures { PutBeside (needs 1 (front_part state.now.store i)) (front_part state.now.store i) given.new result }
 {
     let code = operands::first_number(state, i)?;
@@ -24,22 +27,24 @@ fn put_count(state: &Working, given: &mut [u8; 32768], i: usize) -> Result<usize
 }
 
 // A number.
-fn put_code(given: &mut [u8; 32768], code: usize) -> usize
-    requires { code ≤ 16777214 }
+fn put_code(given: &mut [u8], code: usize) -> usize
+    requires most { code ≤ 16777214 }
+    requires room { row ≤ length given.old }
     ensures { Beside (values.Component.number (uncode code) ∷ []) given.new result }
 {
     components::put_number(given, 0, code);
-    5
+    Amount::SHORT.bytes
 }
 
 // A letter with index `n`.
 fn put_letter(
     state: &Working,
-    given: &mut [u8; 32768],
+    given: &mut [u8],
     l: table::Letter,
     n: usize,
 ) -> Result<usize, Question>
-    requires { LetterHoldable l n }
+    requires holdable { LetterHoldable l n }
+    requires room { row ≤ length given.old }
     ensures { LetterOffers state.now.store l n given.new result }
 {
     let i = n - 1;
@@ -55,10 +60,11 @@ fn put_letter(
 pub fn put_comparand(
     table: Table,
     state: &Working,
-    given: &mut [u8; 32768],
+    given: &mut [u8],
     arg: table::Argument,
 ) -> Result<usize, Question>
-    requires { Holdable table.cells.now arg }
+    requires holdable { Holdable table.cells.now arg }
+    requires room { row ≤ length given.old }
     ensures { ArgumentOffers table.entry.cells.now state.now.store arg given.new result }
 {
     match arg {

@@ -19,16 +19,18 @@ ghost use Rattle.constants.specs.Constants.{Puttable, Put, Placeable, TextPlacea
 use components::Amount;
 use instructions::{Bench, FileTarget, Question, Target};
 use language::Machine;
+use layout::StatePlaces;
 use table::{Table, TextRef};
 
 // Writes a text or number argument as a component at the front of `out`, and tells how much it is.
-fn put_constant(table: Table, out: &mut [u8; 32768], arg: table::Argument) -> Amount
+fn put_constant(table: Table, out: &mut [u8; StatePlaces::ROW], arg: table::Argument) -> Amount
     requires { Puttable table.cells.now arg }
     ensures { Put (arg_of (table_of table.entry.cells.now) arg) out.new result }
 {
     match arg {
         table::Argument::Text(text) => {
             let n = tests::put_text(table, out, text);
+            // Not `Amount::word(n - 1)`: what is written tells its bytes.
             Amount {
                 parts: 1,
                 bytes: n,
@@ -77,13 +79,17 @@ pub fn umiesc_file(
     transfers::room_for(&bench.state, 1, c, 1)?;
     let last = bench.state.last();
     records::put_record(&mut bench.hold, last + 1, &bench.given[..c.bytes]);
-    let bytes = c.bytes + 7;
     let record = Amount {
-        parts: c.parts,
-        bytes,
-        chars: c.chars,
+        bytes: c.bytes + records::FRAME,
+        ..c
     };
-    filing::write_records(&mut bench.state, target, &bench.hold[..bytes], 1, record);
+    filing::write_records(
+        &mut bench.state,
+        target,
+        &bench.hold[..record.bytes],
+        1,
+        record,
+    );
     Ok(())
 }
 
@@ -97,7 +103,7 @@ pub fn umiesc_output(
     requires { TextPlaceable table.cells.now text j }
     ensures { DoesFor bench.old.state (told_by result) bench.new.state (λ g ins. row g ins bench.old.state.store (argument.text (text_of (table_of table.entry.cells.now) text)) (nth Q j) nothing UMIESC) }
 {
-    let mut w = [0u8; 60];
+    let mut w = [0u8; Machine::ITEM];
     let n = table.put_text(text, &mut w);
     if Machine::OUTPUT < bench.state.output_len(j) + n {
         return Err(Question::Room);

@@ -15,6 +15,7 @@ ghost use Rattle.converting.specs.Converting.{NumeralPut, ReadsNumeral};
 
 use components::{Amount, Kind};
 use instructions::{Bench, Question, Source};
+use layout::StatePlaces;
 use numerals::NoNumber;
 use state::Working;
 
@@ -26,11 +27,11 @@ pub struct Spelled {
 }
 
 // Writes the decimal word of a number in front of `hold`, and tells how many characters it has.
-fn put_numeral(hold: &mut [u8; 32768], code: usize) -> usize
+fn put_numeral(hold: &mut [u8; StatePlaces::ROW], code: usize) -> usize
     requires { code ≤ 16777214 }
     ensures { NumeralPut hold.old code hold.new result }
 {
-    let mut w = [0u8; 8];
+    let mut w = [0u8; decimals::LONGEST];
     let n = decimals::put_decimal(&mut w, code);
     components::put_word(hold, 0, &w[..n]);
     n
@@ -84,7 +85,7 @@ pub fn liczba(bench: &mut Bench, source: Source) -> Result<(), Question>
         &mut bench.state,
         source,
         word,
-        &bench.hold[..5],
+        &bench.hold[..Amount::SHORT.bytes],
         Amount::SHORT,
     )
 }

@@ -6,29 +6,28 @@ ghost use Rattle.language.specs.Letters.Letter.{P};
 ghost use Rattle.language.specs.Program.Arg.{nothing};
 ghost use Rattle.language.specs.Program.Op.{KOPIUJ, SKRESL, OMIN};
 ghost use Rattle.layout.specs.Components.{records_bytes, records_in};
-ghost use Rattle.machine.specs.Changes.{minus_unless, stamped, stored};
+ghost use Rattle.machine.specs.Changes.{minus_unless, stamped};
 ghost use Rattle.machine.specs.Effects.{row};
 ghost use Rattle.cells.specs.Cells.{pasted};
 ghost use Rattle.records.specs.Places.{Copyable};
 ghost use Rattle.records.specs.Sequences.{until_records};
 ghost use Rattle.packed.specs.Packed.{table_of};
 ghost use Rattle.state.specs.Working.{HoldsState, on_store, nth, filing, turned};
-ghost use Rattle.filing.specs.Files.{bodies, RecordsWritable};
 ghost use Rattle.record_tests.specs.RecordPrepares.{until_records_in};
 ghost use Rattle.table.specs.Denote.{arg_of};
 ghost use Rattle.instructions.specs.Questions.{told_by};
 ghost use Rattle.instructions.specs.Does.{DoesFor};
 ghost use Rattle.copying.specs.Copies.{passed, copied, Droppable, Duplicable, RecordsRemovable, RecordsMovable, Storing};
 
-use components::Amount;
 use instructions::{Bench, FileTarget, Question, Source};
+use layout::StatePlaces;
 use record_tests::RecordsPrepared;
 use records::RecordTest;
 use state::Working;
 use table::Table;
 
 // Moves the pointer of file `i` past what a test takes.
-fn pass_taken(state: &mut Working, hold: &mut [u8; 32768], test: RecordTest, i: usize)
+fn pass_taken(state: &mut Working, hold: &mut [u8; StatePlaces::ROW], test: RecordTest, i: usize)
     requires { Droppable test i }
     ensures { HoldsState state.new (on_store (passed (until_records test.entry) false i) state.old) }
 {
@@ -90,22 +89,6 @@ fn restamp(dst: &mut [u8], src: &[u8], last: usize, reverses: bool)
     }
 }
 
-// Writes new records, how many and how much they are, to a file, and turns H minus unless the test was reached.
-fn file_copies(
-    state: &mut Working,
-    target: FileTarget,
-    new: &[u8],
-    records: usize,
-    amount: Amount,
-    reached: bool,
-)
-    requires { RecordsWritable state.old target.j target.reverses new.now records amount.parts amount.chars }
-    ensures { HoldsState state.new (on_store (λ t. minus_unless reached (stored (nth (filing target.reverses) target.j) (bodies target.reverses new.now) t)) state.old) }
-{
-    filing::write_records(state, target, new, records, amount);
-    state.minus_unless(reached);
-}
-
 // Copies what a test takes after the pointer of a file to another. Moving the pointer writes over the bytes beside the test.
 fn copy_taken(
     bench: &mut Bench,
@@ -126,8 +109,8 @@ fn copy_taken(
     let last = bench.state.last();
     restamp(&mut bench.hold, &f[..bytes], last, target.reverses);
     filing::past_records(&mut bench.state, &mut bench.given, source, k, v);
-    let new = &bench.hold[..bytes];
-    file_copies(&mut bench.state, target, new, k, v, t.reached);
+    filing::write_records(&mut bench.state, target, &bench.hold[..bytes], k, v);
+    bench.state.minus_unless(t.reached);
     Ok(())
 }
 

@@ -147,6 +147,7 @@ pub fn label_of(a: table::Argument) -> usize
     }
 }
 
+// Not one with `label_of`: each takes another variant apart, and one function would take a closure that matches.
 pub fn switch_of(a: table::Argument) -> usize
     requires { Switched a }
     ensures { a ≡ Switch result }

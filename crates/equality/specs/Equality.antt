@@ -1,4 +1,5 @@
 -- What RW asks, and what is told of its arguments.
+use Rattle.std.specs.Borrow.{Bor}
 use Rattle.std.specs.Prelude.{◌≡◌, Bool, true, false, cond, List, [], ℕ, ◌≤◌, ◌<◌, eqb, length}
 use Rattle.language.specs.Limits as limit
 use Rattle.language.specs.Letters.Letter.{E}
@@ -12,6 +13,7 @@ use Rattle.lists.specs.Lists.{any, among, filled}
 use Rattle.components.specs.Parts.{Leading}
 use Rattle.matching.specs.Tests.{in_class, first_chars, until, until_firsts, compared, Fitting}
 use Rattle.matching.specs.declared.Test.{Test}
+use Rattle.matching.specs.declared.Test.TheVariants as test
 use Rattle.state.specs.Working.{nth, reading}
 use Rattle.components.specs.declared.Amount.{Amount}
 use Rattle.state.specs.Blocks.{FirstParts}
@@ -48,12 +50,23 @@ firsts_by (Class m) g = up_to (in_class m)
 firsts_by (Text v) g = begun_by g
 firsts_by (Number v) g = begun_by g
 
--- t is that test
-pub record TestBy (a : Argument) (g : List ℕ) (t : Test) : Type 0 where
-  pub parts : until t ≡ until_by a g
-  pub firsts : until_firsts t ≡ firsts_by a g
-  pub fitting : WholeComponents g → Fitting t
-  pub long : compared t ≤ length g
+-- the test that an argument makes: its class, or what it offers, which is in g
+abbrev pub test_of : Argument → Bor (List ℕ) → Test
+test_of Nothing g = test.Among g
+test_of (Indexed l n) g = test.Among g
+test_of (Label k) g = test.Among g
+test_of (Switch k) g = test.Among g
+test_of (Class m) g = test.Class m
+test_of (Text v) g = test.Among g
+test_of (Number v) g = test.Among g
+
+-- t is that test, and so what it means, and what it compares with
+pub record TestBy (a : Argument) (g : Bor (List ℕ)) (t : Test) : Type 0 where
+  pub is : t ≡ test_of a g
+  pub parts : until t ≡ until_by a g.now
+  pub firsts : until_firsts t ≡ firsts_by a g.now
+  pub fitting : WholeComponents g.now → Fitting t
+  pub long : compared t ≤ length g.now
 
 -- its letter, if it has one, is one of a relation's
 abbrev pub OtherArgument : Argument → Type 0

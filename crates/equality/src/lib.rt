@@ -24,7 +24,7 @@ use table::Table;
 
 // What a component is compared by: a class, or the components that the argument offers, which are in `given`.
 pub fn test_of(arg: table::Argument, given: &[u8]) -> Test<'_>
-    ensures { TestBy arg given.now result }
+    ensures { TestBy arg given.entry result }
 {
     match arg {
         table::Argument::Class(mask) => Test::Class(mask),

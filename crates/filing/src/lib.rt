@@ -1,9 +1,10 @@
 // The files of the state at work: the records before the pointer and after it, and the changes that instructions make in them.
 #![tactic(auto)]
 
-ghost use Rattle.std.specs.Prelude.{◌≡◌, ◌<◌, true, false, length};
+ghost use Rattle.std.specs.Prelude.{◌≡◌, ◌<◌, ◌≤◌, true, false, length};
 ghost use Rattle.language.specs.Letters.Letter.{P};
 ghost use Rattle.language.specs.Limits as limit;
+ghost use Rattle.layout.specs.Places.{before_string, after_string, row};
 ghost use Rattle.machine.specs.Arguments.{file_of};
 ghost use Rattle.machine.specs.Changes.{past, stored};
 ghost use Rattle.state.specs.Working.{HoldsState, on_store, nth, filing};
@@ -15,13 +16,30 @@ use records::Place;
 use state::{FileTarget, Source, Working};
 use strings::Strings;
 
+// The string of file `i` that has the records before the pointer.
+fn before_string(i: usize) -> usize
+    requires { i < limit.files }
+    ensures { result ≡ before_string i }
+{
+    StatePlaces::FIRST_FILE + 2 * i
+}
+
+// The string of file `i` that has the records after the pointer.
+fn after_string(i: usize) -> usize
+    requires { i < limit.files }
+    ensures { result ≡ after_string i }
+{
+    StatePlaces::FIRST_FILE + (2 * i + 1)
+}
+
 // The bytes of the records before the pointer of file `i`.
-// Not one with `after_bytes`: the promise of each names its own side of the file.
+// Not one with `after_bytes`: the promise of each names its own side of the file. By a `Side { Before, After }` it would be a match on the side, which each
+// caller, naming one, would compute away again.
 pub fn before_bytes(state: &Working, i: usize) -> &[u8]
     requires { i < limit.files }
     ensures { RecordsLent (file_of state.now.store (nth P i)).before result.now }
 {
-    state.strings.string_of(StatePlaces::FIRST_FILE + 2 * i)
+    state.strings.string_of(before_string(i))
 }
 
 // The bytes of the records after the pointer of file `i`.
@@ -29,9 +47,7 @@ pub fn after_bytes(state: &Working, i: usize) -> &[u8]
     requires { i < limit.files }
     ensures { RecordsLent (file_of state.now.store (nth P i)).after result.now }
 {
-    state
-        .strings
-        .string_of(StatePlaces::FIRST_FILE + (2 * i + 1))
+    state.strings.string_of(after_string(i))
 }
 
 // Takes the first records after the pointer of file `i` away: how many, and how much they are.
@@ -40,35 +56,32 @@ pub fn drop_records(state: &mut Working, i: usize, records: usize, amount: Amoun
     requires { RecordsDroppable state.old i records amount.bytes amount.parts amount.chars }
     ensures { HoldsState state.new (on_store (past (nth (filing true) i) records) state.old) }
 {
-    state
-        .strings
-        .drop_front(StatePlaces::FIRST_FILE + (2 * i + 1), amount.bytes);
+    state.strings.drop_front(after_string(i), amount.bytes);
     state.scalars.lower(amount);
     state.scalars.records -= records;
 }
 
 // Moves the pointer of file `i` past the records after it that stand up to a place.
-pub fn pass_records(state: &mut Working, hold: &mut [u8; 32768], i: usize, end: Place)
-    requires { Passable state.old i end.records end.bytes }
+pub fn pass_records(state: &mut Working, hold: &mut [u8], i: usize, end: Place)
+    requires passable { Passable state.old i end.records end.bytes }
+    requires room { row ≤ length hold.old }
     ensures { HoldsState state.new (on_store (past (nth (filing false) i) end.records) state.old) }
 {
-    state.strings.move_front_to_back(
-        hold,
-        StatePlaces::FIRST_FILE + (2 * i + 1),
-        StatePlaces::FIRST_FILE + 2 * i,
-        end.bytes,
-    );
+    state
+        .strings
+        .move_front_to_back(hold, after_string(i), before_string(i), end.bytes);
 }
 
 // Reads past the first records after the pointer of a file, how many and how much they are: removes them, or moves the pointer.
 pub fn past_records(
     state: &mut Working,
-    hold: &mut [u8; 32768],
+    hold: &mut [u8],
     source: Source,
     records: usize,
     amount: Amount,
 )
-    requires { RecordsDroppable state.old source.i records amount.bytes amount.parts amount.chars }
+    requires droppable { RecordsDroppable state.old source.i records amount.bytes amount.parts amount.chars }
+    requires room { row ≤ length hold.old }
     ensures { HoldsState state.new (on_store (past (nth (filing source.removes) source.i) records) state.old) }
 {
     if source.removes {
@@ -80,13 +93,14 @@ pub fn past_records(
 }
 
 // Moves the pointer of file `i` behind the records of the file that stand up to a place.
-pub fn point(state: &mut Working, hold: &mut [u8; 32768], i: usize, place: Place)
-    requires { Pointable state.old i place.records place.bytes }
+pub fn point(state: &mut Working, hold: &mut [u8], i: usize, place: Place)
+    requires pointable { Pointable state.old i place.records place.bytes }
+    requires room { row ≤ length hold.old }
     ensures { HoldsState state.new (on_store (pointed_at i place.records) state.old) }
 {
     let bytes = place.bytes;
-    let before = StatePlaces::FIRST_FILE + 2 * i;
-    let after = StatePlaces::FIRST_FILE + (2 * i + 1);
+    let before = before_string(i);
+    let after = after_string(i);
     let n = state.strings.len_of(before);
     if bytes <= n {
         state
@@ -106,9 +120,9 @@ fn insert(strings: &mut Strings, target: FileTarget, bytes: &[u8])
     ensures { strings.new ≡ inserted target.reverses target.j bytes.now strings.old }
 {
     if target.reverses {
-        strings.push_front(StatePlaces::FIRST_FILE + (2 * target.j + 1), bytes);
+        strings.push_front(after_string(target.j), bytes);
     } else {
-        strings.push_back(StatePlaces::FIRST_FILE + 2 * target.j, bytes);
+        strings.push_back(before_string(target.j), bytes);
     }
 }
 
@@ -131,19 +145,16 @@ pub fn write_records(
 }
 
 // Exchanges the files `i` and `j`.
-pub fn exchange_files(state: &mut Working, hold: &mut [u8; 32768], i: usize, j: usize)
+pub fn exchange_files(state: &mut Working, hold: &mut [u8], i: usize, j: usize)
     requires first { i < limit.files }
     requires second { j < limit.files }
+    requires room { row ≤ length hold.old }
     ensures { HoldsState state.new (on_store (files_exchanged i j) state.old) }
 {
-    state.strings.exchange(
-        hold,
-        StatePlaces::FIRST_FILE + 2 * i,
-        StatePlaces::FIRST_FILE + 2 * j,
-    );
-    state.strings.exchange(
-        hold,
-        StatePlaces::FIRST_FILE + (2 * i + 1),
-        StatePlaces::FIRST_FILE + (2 * j + 1),
-    );
+    state
+        .strings
+        .exchange(hold, before_string(i), before_string(j));
+    state
+        .strings
+        .exchange(hold, after_string(i), after_string(j));
 }

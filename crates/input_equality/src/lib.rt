@@ -14,6 +14,7 @@ ghost use Rattle.readings.specs.Readings.{DoesPassing};
 ghost use Rattle.input_equality.specs.InputEquality.{Spellable, NotWord, compared, InputComparable, InputRelatable};
 
 use instructions::{Bench, Question, Task};
+use layout::StatePlaces;
 use state::Working;
 
 // Whether an argument offers a single component that is not a word.
@@ -30,7 +31,7 @@ fn not_word(given: &[u8], arg: table::Argument) -> bool
 // Compares the next character of input `i`; of the words beside only the first characters count. Nothing is read.
 fn compare(
     state: &mut Working,
-    hold: &mut [u8; 32768],
+    hold: &mut [u8; StatePlaces::ROW],
     given: &[u8],
     input: &[u8],
     i: usize,

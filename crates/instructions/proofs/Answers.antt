@@ -97,8 +97,9 @@ module _ {σ : State} (h : Stands σ) (r : Row) where
   pub goes-stop : {k : ℕ} → answer_of r σ ≡ k → (k ≡ 0 → ⊥) → Goes σ k σ r
   goes-stop q z = record { is = sym q; holds = rw (done-stop r σ q z) h }
 
-  pub goes-done : {σ' : State} → answer_of r σ ≡ 0 → HoldsState σ' (made r σ) → Goes σ 0 σ' r
-  goes-done q k = record { is = sym q; holds = rw (done-done r σ q) k }
+-- where all is answered yes, the new state alone has to be fine
+pub goes-done : {σ : State} (r : Row) {σ' : State} → answer_of r σ ≡ 0 → HoldsState σ' (made r σ) → Goes σ 0 σ' r
+goes-done {σ} r q k = record { is = sym q; holds = rw (done-done r σ q) k }
 
 -- ---- rows that ask 52, 53 and 54 alone
 

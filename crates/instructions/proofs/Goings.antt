@@ -58,13 +58,13 @@ module _ (r : Row) (s : State) (y : Yes r.0) (c : can_go r.2 s.stack ≡ true) w
   answer-full l =
       ap (λ (k : List Question). head_or 0 (refusals k)) (asked-none r.0 r.1 r.2 s y) ∙ rw (c, l, and-false (fits r.1)) refl
 
-module _ {σ : State} (h : Stands σ) (r : Row) (y : Yes r.0) (c : can_go r.2 σ.stack ≡ true) where
+module _ {σ : State} (r : Row) (y : Yes r.0) (c : can_go r.2 σ.stack ≡ true) where
   -- the memory holds what it makes; the return stack is full
   pub goes-made : {σ' : State} → HoldsState σ' (made r σ) → Goes σ 0 σ' r
-  goes-made k = goes-done h r (answer-made r σ y c k.fine) k
+  goes-made k = goes-done r (answer-made r σ y c k.fine) k
 
-  pub goes-full : leb (length (made r σ).stack) limit.stack ≡ false → Goes σ 59 σ r
-  goes-full l = goes-stop h r (answer-full r σ y c l) (λ z. omega (arith, z))
+  pub goes-full : Stands σ → leb (length (made r σ).stack) limit.stack ≡ false → Goes σ 59 σ r
+  goes-full h l = goes-stop h r (answer-full r σ y c l) (λ z. omega (arith, z))
 
 -- ---- the first no among 52, 53 and 54; among those and 56
 

@@ -9,6 +9,7 @@ ghost use Rattle.instructions.specs.Fronts.{FrontOf};
 
 use components::{Amount, Kind};
 use language::Machine;
+use layout::StatePlaces;
 use state::Working;
 pub use state::{FileTarget, Source, Target};
 pub use tasks::Task;
@@ -40,11 +41,12 @@ impl From<Question> for u8 {
 }
 
 // The state at work, and beside it two rows of bytes: what is on its way, and what a test or another operand gives.
+// A public function that is lent one of them takes a slice and says by a clause how long it is: an array of this length would leave out longer rows.
 #[derive(Drop)]
 pub struct Bench {
     pub state: Working,
-    pub hold: [u8; 32768],
-    pub given: [u8; 32768],
+    pub hold: [u8; StatePlaces::ROW],
+    pub given: [u8; StatePlaces::ROW],
 }
 
 // Whether so much new is within the limits, where so much is freed before.

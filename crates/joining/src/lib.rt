@@ -20,6 +20,7 @@ ghost use Rattle.joining.specs.Joining.{word_if, some, word_room, joined_up, Wor
 use components::Amount;
 use instructions::{Bench, Question, Source};
 use language::Machine;
+use layout::StatePlaces;
 use state::Working;
 use table::Table;
 use tests::Prepared;
@@ -32,18 +33,20 @@ pub fn some(k: usize) -> usize
 }
 
 // Whether a word of `k` characters is within the limits; `removes`: its characters are taken away before.
+// A flag, and no amount that is freed: those characters stood in one component at least, so that the word has room wherever they are taken away.
 pub fn has_word_room(state: &Working, removes: bool, k: usize) -> bool
     ensures { result ≡ word_room removes k state.now.store }
 {
     if Machine::WORD < k {
         return false;
     }
+    // Of no characters no word is made, so this is not `Amount::word`. `join_up` has its bytes from what it wrote, so the two share no function.
     let word = Amount {
         parts: some(k),
         bytes: some(k) + k,
         chars: k,
     };
-    moves::has_room(state, removes, word)
+    removes || instructions::has_room(state, word)
 }
 
 // Writes the word of these characters, if there are any, at the front of `out`, and tells how many cells it takes.
@@ -59,7 +62,11 @@ pub fn make_word(out: &mut [u8], w: &[u8]) -> usize
 }
 
 // Writes the characters of all words of `src` as one word; `row` holds them meanwhile.
-fn join_word(row: &mut [u8; 32768], out: &mut [u8; 32768], src: &[u8]) -> usize
+fn join_word(
+    row: &mut [u8; StatePlaces::ROW],
+    out: &mut [u8; StatePlaces::ROW],
+    src: &[u8],
+) -> usize
     requires { WordsMakeable src.now }
     ensures { Written out.old (components_bytes (word_if (spelled (components_in src.now)))) out.new result }
 {

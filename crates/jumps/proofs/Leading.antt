@@ -46,7 +46,7 @@ led-there {σ} g {x} {σ'} w z = go (room σ g) w.is w.holds
 
 module _ {σ : State} (h : Stands σ) (g : Go) (can : can_go g σ.stack ≡ true) {x : ℕ} {σ' : State} (w : Led σ g x σ') where
   full : (t : Store) → room σ g ≡ false → x ≡ 59 → HoldsState σ' σ → Goes σ x σ' (none, t, g)
-  full t q i k = subst (λ (s : State). Goes σ x s (none, t, g)) (sym k.is) (rw i (goes-full h (none, t, g) none-yes can q))
+  full t q i k = subst (λ (s : State). Goes σ x s (none, t, g)) (sym k.is) (rw i (goes-full (none, t, g) none-yes can h q))
 
   -- the stack is full, whatever the row would make
   pub led-full : (t : Store) → (x ≡ 0 → ⊥) → Goes σ x σ' (none, t, g)
@@ -61,5 +61,5 @@ module _ {σ : State} (h : Stands σ) (g : Go) (can : can_go g σ.stack ≡ true
   led-goes = go (room σ g) refl w.is w.holds
     where
       go : (b : Bool) → room σ g ≡ b → x ≡ cond b 0 59 → HoldsState σ' (cond b (going g σ) σ) → Goes σ x σ' (none, σ.store, g)
-      go true q i k = rw i (goes-made h (none, σ.store, g) none-yes can (rw (made-going none g σ) k))
+      go true q i k = rw i (goes-made (none, σ.store, g) none-yes can (rw (made-going none g σ) k))
       go false q i k = full σ.store q i k

@@ -82,16 +82,16 @@ row-stop g ins s = refl
 -- ---- what their functions do
 
 -- jumps and calls whatever H is; g goes to label k
-module _ {σ : State} (h : Stands σ) (c : List ℕ) (k : ℕ) where
+module _ {σ : State} (c : List ℕ) (k : ℕ) where
   pub skocz-done : {t : ℕ} {σ' : State} → t ≡ led_to c k → HoldsState σ' (going (jump t) σ)
       → GoesIn σ 0 σ' (λ ins. row (program_of c) ins σ.store (label k) nothing nothing SKOCZ)
   skocz-done q g ins =
       rw (row-skocz c ins σ.store k)
-      (goes-made h (none, σ.store, jump (led_to c k)) none-yes refl (rw (made-going none (jump (led_to c k)) σ) (rw q at g)))
+      (goes-made (none, σ.store, jump (led_to c k)) none-yes refl (rw (made-going none (jump (led_to c k)) σ) (rw q at g)))
 
-  pub wykonaj-goes : {t x : ℕ} {σ' : State} → t ≡ led_to c k → Led σ (call t) x σ'
+  pub wykonaj-goes : Stands σ → {t x : ℕ} {σ' : State} → t ≡ led_to c k → Led σ (call t) x σ'
       → GoesIn σ x σ' (λ ins. row (program_of c) ins σ.store (label k) nothing nothing WYKONAJ)
-  wykonaj-goes q g ins = rw (row-wykonaj c ins σ.store k) (led-goes h (call (led_to c k)) refl (rw q at g))
+  wykonaj-goes h q g ins = rw (row-wykonaj c ins σ.store k) (led-goes h (call (led_to c k)) refl (rw q at g))
 
   -- a condition: not taken, taken, taken with a full return stack
   module _ (b : Bool) where
@@ -99,7 +99,7 @@ module _ {σ : State} (h : Stands σ) (c : List ℕ) (k : ℕ) where
         → GoesIn σ 0 σ'' (λ ins. jump_if (program_of c) ins σ.store b g)
     if-on g q w j ins =
         rw (if-left c ins σ.store k b g q)
-        (goes-made h (none, with_plus true σ.store, on) none-yes refl
+        (goes-made (none, with_plus true σ.store, on) none-yes refl
         (rw (made_after none (with_plus true) on σ) (after-state w (on_store (with_plus true)) j)))
 
     pub if-gone : (way : Way) {t : ℕ} {σ' σ'' : State} → b ≡ true → t ≡ led_to c k → HoldsState σ' (going (going_by way t) σ)
@@ -107,12 +107,12 @@ module _ {σ : State} (h : Stands σ) (c : List ℕ) (k : ℕ) where
     if-gone way q x w j ins =
         let g = going_by way (led_to c k) in
         rw (if-taken c ins σ.store k b g q)
-        (goes-made h (none, with_plus true σ.store, g) none-yes (can_lead way (led_to c k) σ.stack)
+        (goes-made (none, with_plus true σ.store, g) none-yes (can_lead way (led_to c k) σ.stack)
         (rw (made_after none (with_plus true) g σ) (after-state (rw x at w) (on_store (with_plus true)) j)))
 
-    pub if-full : (way : Way) {t x : ℕ} {σ' : State} → b ≡ true → t ≡ led_to c k → Led σ (going_by way t) x σ' → (x ≡ 0 → ⊥)
+    pub if-full : Stands σ → (way : Way) {t x : ℕ} {σ' : State} → b ≡ true → t ≡ led_to c k → Led σ (going_by way t) x σ' → (x ≡ 0 → ⊥)
         → GoesIn σ x σ' (λ ins. jump_if (program_of c) ins σ.store b (going_by way (led_to c k)))
-    if-full way {t} q y w z ins =
+    if-full h way {t} q y w z ins =
         rw (if-taken c ins σ.store k b (going_by way (led_to c k)) q)
         (led-full h (going_by way (led_to c k)) (can_lead way (led_to c k) σ.stack) (rw y at w) (with_plus true σ.store) z)
 
@@ -129,6 +129,12 @@ a-return (x ∷ st) z = refl
 pub a-call : {σ : State} {d : ℕ} → Deep σ d → (d ≡ 0 → ⊥) → 0 < length σ.stack
 a-call d z = omega (arith, d.is, z)
 
+pub wroc-done : {σ σ' : State} → 0 < length σ.stack → HoldsState σ' (going back σ)
+    → GoesFor σ 0 σ' (λ g ins. row g ins σ.store nothing nothing nothing WROC)
+wroc-done {σ} w k g ins =
+    rw (row-wroc g ins σ.store)
+    (goes-made (none, σ.store, back) none-yes (a-return σ.stack w) (rw (made-going none back σ) k))
+
 module _ {σ : State} (h : Stands σ) where
   pub wroc-none : {d : ℕ} → Deep σ d → d ≡ 0 → GoesFor σ 57 σ (λ g ins. row g ins σ.store nothing nothing nothing WROC)
   wroc-none d z g ins =
@@ -137,12 +143,6 @@ module _ {σ : State} (h : Stands σ) where
       (goes-stop h r
       (answer-no r σ (50 ∷ 52 ∷ 53 ∷ 54 ∷ 55 ∷ 56 ∷ []) 57 (58 ∷ 59 ∷ 60 ∷ []) refl (refl, (refl, (refl, (refl, (refl, (refl, tt))))))
       (rw (no_return σ.stack (omega (arith, d.is, z))) refl)) (λ y. omega (arith, y)))
-
-  pub wroc-done : {σ' : State} → 0 < length σ.stack → HoldsState σ' (going back σ)
-      → GoesFor σ 0 σ' (λ g ins. row g ins σ.store nothing nothing nothing WROC)
-  wroc-done w k g ins =
-      rw (row-wroc g ins σ.store)
-      (goes-made h (none, σ.store, back) none-yes (a-return σ.stack w) (rw (made-going none back σ) k))
 
   pub stop-stops : GoesFor σ 50 σ (λ g ins. row g ins σ.store nothing nothing nothing STOP)
   stop-stops g ins =

@@ -79,7 +79,6 @@ pub fn skocz(table: Table, state: &mut Working, label: usize) -> Result<(), Ques
     requires { GoodLabel table.cells.now label }
     ensures { GoesIn state.old (told_by result) state.new (λ ins. row (program_of table.entry.cells.now) ins state.old.store (by-label label) nothing nothing SKOCZ) }
 {
-    state.stands();
     control::go_to(state, table.target(label));
     Ok(())
 }

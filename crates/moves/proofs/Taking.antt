@@ -1,11 +1,11 @@
 -- What a test takes of an expression, in bytes: taken away, copied beside, turned round.
 use mathlib.Core.Path.{◌≡◌, refl, sym, ap, ◌∙◌, subst}
-use mathlib.Core.Bool.{Bool, true, false, cond, ◌&&◌, ◌||◌}
+use mathlib.Core.Bool.{Bool, true, false, cond, ◌&&◌}
 use mathlib.Core.List.{List, [], ◌∷◌, reverse_aux}
 use Prim.Native.Nat.{ℕ, ◌+◌, ◌≤◌, ◌<◌}
 use native.Mathlib.Omega.{arith}
 use lib.Dec.{leb}
-use borrow.Author.Tests.{le-leb, leb-true}
+use borrow.Author.Tests.{leb-true}
 use lib.ListN.{length, take, length-append, length-take}
 use Rattle.std.proofs.lemmas.Bool.{and_parts}
 use Rattle.language.specs.Limits as limit
@@ -29,8 +29,9 @@ use Rattle.state.proofs.Sequences.{turned-length, turned-total, bytes-turned}
 use Rattle.state.proofs.Fits.{fine-limited, fits-minus_unless, fits-into-ok}
 use Rattle.state.proofs.Freed.{limited-past, components-past, chars-past}
 use Rattle.state.specs.Limited.{Limited}
-use Rattle.instructions.specs.Does.{More}
-use Rattle.moves.specs.Moves.{room_beside, sent, cut_off}
+use Rattle.instructions.specs.Does.{More, room_after}
+use Rattle.instructions.proofs.Room.{room-freed}
+use Rattle.moves.specs.Moves.{sent, cut_off}
 
 -- ---- turned round
 
@@ -55,27 +56,6 @@ held-turned d {d'} {y} {zs} b m e c q =
       is = rw (e, components-of c) (pasted-front d (components_bytes (turned b zs)) m (bytes-turned b zs ∙ sym q));
       all_ok = each-turned b zs c.all_ok;
     }
-
--- ---- room: c and k components and characters are held, of which so many may be taken away before
-
-module _ (parts chars c' k' : ℕ) {c k : ℕ} where
-  pub room-after : (removes : Bool) → c ≤ limit.components → k ≤ limit.characters → c' + cond removes parts 0 ≡ c → k' + cond removes chars 0 ≡ k
-      → (leb (c' + parts) limit.components && leb (k' + chars) limit.characters)
-      ≡ (removes || (leb (c + parts) limit.components && leb (k + chars) limit.characters))
-  room-after true a b x y =
-      rw (le-leb (c' + parts) limit.components (omega (arith, x, a)), le-leb (k' + chars) limit.characters (omega (arith, y, b))) refl
-  room-after false a b x y =
-      let p : c' ≡ c = omega (arith, x) in
-      let q : k' ≡ k = omega (arith, y) in
-      rw (p, q) refl
-
-  pub room-had : (removes : Bool) → c ≤ limit.components → k ≤ limit.characters → c' + cond removes parts 0 ≡ c → k' + cond removes chars 0 ≡ k
-      → (removes || (leb (c + parts) limit.components && leb (k + chars) limit.characters)) ≡ true
-      → (c' + parts ≤ limit.components) × (k' + chars ≤ limit.characters)
-  room-had true a b x y r = (omega (arith, x, a), omega (arith, y, b))
-  room-had false a b x y r =
-      let w = and_parts (leb (c + parts) limit.components) (leb (k + chars) limit.characters) r in
-      (omega (arith, x, leb-true (c + parts) limit.components w.0), omega (arith, y, leb-true (k + chars) limit.characters w.1))
 
 -- ---- what is taken
 
@@ -128,6 +108,10 @@ module _ {σ : State} {i : ℕ} {x : List ℕ} {u : Until Component} {t : Taken}
     abbrev z : Store
     z = past (nth (reading removes) i) t.amount.parts s
 
+    -- whether it has room, where it is freed if it is removed
+    abbrev pub room : Bool
+    room = room_after s (cond removes t.amount.parts 0) (cond removes t.amount.chars 0) t.amount.parts t.amount.chars
+
     pub parts-off : components_held z + cond removes t.amount.parts 0 ≡ components_held s
     parts-off = components-past s i t.amount.parts within droppable.first removes
 
@@ -145,7 +129,15 @@ module _ {σ : State} {i : ℕ} {x : List ℕ} {u : Until Component} {t : Taken}
       chars-are = took.chars_is ∙ sym (turned-total (λ y. length (chars y)) reverses (take t.amount.parts xs))
 
       -- the limits
-      pub fits-sent : fits (sent u removes i reverses at_end j s) ≡ room_beside removes t.amount.parts t.amount.chars s
+      room-is : room ≡ (leb (components_held z + t.amount.parts) limit.components && leb (chars_held z + t.amount.chars) limit.characters)
+      room-is =
+          rw (
+            room-freed (components_held z) (components_held s) (cond removes t.amount.parts 0) t.amount.parts limit.components parts-off,
+            room-freed (chars_held z) (chars_held s) (cond removes t.amount.chars 0) t.amount.chars limit.characters chars-off,
+          )
+          refl
+
+      pub fits-sent : fits (sent u removes i reverses at_end j s) ≡ room
       unfolding sent
       fits-sent =
           let m : Limited z = limited-past s (fine-limited σ h.fine) (nth (reading removes) i) t.amount.parts in
@@ -153,24 +145,24 @@ module _ {σ : State} {i : ℕ} {x : List ℕ} {u : Until Component} {t : Taken}
           rw took.is
           (fits-minus_unless t.reached (into (nth (writing at_end) j) ys z)
           ∙ fits-into-ok (nth (writing at_end) j) z q ys m (each-turned reverses (take t.amount.parts xs) taken-part.all_ok)
-          ∙ rw (← count_is, ← chars-are) (room-after t.amount.parts t.amount.chars (components_held z) (chars_held z) removes h.fine.components_most h.fine.chars_most parts-off chars-off))
+          ∙ rw (← count_is, ← chars-are) (sym room-is))
 
       module _ {new : List ℕ} (c : Encoded new ys) where
         new_is : components_in new ≡ ys
         new_is = components-of c
 
-        pub writable : room_beside removes t.amount.parts t.amount.chars s ≡ true → {σ' : State} → HoldsState σ' (on_store (past (nth (reading removes) i) t.amount.parts) σ)
+        pub writable : room ≡ true → {σ' : State} → HoldsState σ' (on_store (past (nth (reading removes) i) t.amount.parts) σ)
             → PartsWritable σ' j new t.amount.parts t.amount.chars
         unfolding on_store
         writable r g =
-            let w = room-had t.amount.parts t.amount.chars (components_held z) (chars_held z) removes h.fine.components_most h.fine.chars_most parts-off chars-off r in
+            let w = and_parts (leb (components_held z + t.amount.parts) limit.components) (leb (chars_held z + t.amount.chars) limit.characters) (sym room-is ∙ r) in
             record {
               index = d;
               whole = whole-components c;
               count = rw new_is count_is;
               chars_is = rw new_is chars-are;
-              components_room = rw g.is w.0;
-              chars_room = rw g.is w.1;
+              components_room = rw g.is (leb-true (components_held z + t.amount.parts) limit.components w.0);
+              chars_room = rw g.is (leb-true (chars_held z + t.amount.chars) limit.characters w.1);
             }
 
         -- what is held then

@@ -1,5 +1,5 @@
 -- What moves of components make of a store, and what their functions ask.
-use Rattle.std.specs.Prelude.{Bool, true, ◌||◌, List, ℕ, ◌≤◌, ◌<◌, length, take}
+use Rattle.std.specs.Prelude.{Bool, true, List, ℕ, ◌≤◌, ◌<◌, length, take}
 use Rattle.language.specs.Limits as limit
 use Rattle.language.specs.Letters.Letter.{E}
 use Rattle.language.specs.Values.{Component, Store}
@@ -7,7 +7,6 @@ use Rattle.machine.specs.Arguments.{expr, Until, taken}
 use Rattle.machine.specs.Changes.{minus_unless, into, past}
 use Rattle.matching.specs.Tests.{all_word}
 use Rattle.state.specs.Working.{nth, reading, writing, turned}
-use Rattle.instructions.specs.Does.{has_room}
 use Rattle.table.specs.declared.Argument.{Argument}
 use Rattle.tests.specs.Prepares.{TestReadable, FittingIn, beside_size}
 use Rattle.tests.specs.declared.Prepared.{Prepared}
@@ -24,10 +23,6 @@ all_taken_words u i s = let xs = expr s (nth E i) in all_word (take (taken u xs)
 
 unfoldable pub cut_off : Until Component → ℕ → Store → Store
 cut_off u i s = let r = taken u (expr s (nth E i)) in minus_unless r.1 (past (nth (reading true) i) r.0 s)
-
--- whether so many components and characters have room; where as many are taken away first, they have
-abbrev pub room_beside : Bool → ℕ → ℕ → Store → Bool
-room_beside removes parts chars s = removes || has_room s parts chars
 
 -- ---- what is asked
 

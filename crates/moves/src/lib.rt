@@ -1,7 +1,7 @@
 // Moves of components: PRZESLIJ and USUN A.
 #![tactic(auto)]
 
-ghost use Rattle.std.specs.Prelude.{◌≡◌, true, ◌<◌};
+ghost use Rattle.std.specs.Prelude.{true, ◌<◌};
 ghost use Rattle.language.specs.Limits as limit;
 ghost use Rattle.language.specs.Program.Arg.{nothing};
 ghost use Rattle.language.specs.Program.Op.{PRZESLIJ, USUN};
@@ -14,9 +14,9 @@ ghost use Rattle.state.specs.Working.{HoldsState, on_store, nth, reading, writin
 ghost use Rattle.state.specs.Blocks.{PartsWritable};
 ghost use Rattle.table.specs.Denote.{arg_of};
 ghost use Rattle.instructions.specs.Questions.{told_by};
-ghost use Rattle.instructions.specs.Does.{Tried, DoesFor, More};
+ghost use Rattle.instructions.specs.Does.{Tried, DoesFor};
 ghost use Rattle.instructions.specs.Operands.{target as target_letter};
-ghost use Rattle.moves.specs.Moves.{room_beside, sent, cut_off, TestBeside, Movable, Removable};
+ghost use Rattle.moves.specs.Moves.{sent, cut_off, TestBeside, Movable, Removable};
 
 use components::Amount;
 use instructions::{Bench, Question, Source, Target};
@@ -33,18 +33,6 @@ pub fn deliver(state: &mut Working, target: Target, new: &[u8], amount: Amount, 
     state.minus_unless(reached);
 }
 
-// Whether so much is within the limits; `removes`: as much at least is taken away before.
-// Not `has_room_after` with that freed: where as much goes as comes there is room, whatever it is.
-pub fn has_room(state: &Working, removes: bool, amount: Amount) -> bool
-    requires { More amount.parts amount.chars }
-    ensures { result ≡ room_beside removes amount.parts amount.chars state.now.store }
-{
-    if removes {
-        return true;
-    }
-    instructions::has_room(state, amount)
-}
-
 // Writes what a test takes of an expression to another, where it has room.
 fn send(bench: &mut Bench, test: Prepared, source: Source, target: Target) -> Result<(), Question>
     requires beside { TestBeside bench.old.given test }
@@ -55,7 +43,7 @@ fn send(bench: &mut Bench, test: Prepared, source: Source, target: Target) -> Re
     let x = bench.state.expr_bytes(source.i);
     let t = matching::count(x, test.with(&bench.given));
     let amount = t.amount;
-    if !has_room(&bench.state, source.removes, amount) {
+    if !instructions::has_room_after(&bench.state, source.freed(amount), amount) {
         return Err(Question::Room);
     }
     components::copy(&mut bench.hold, &x[..amount.bytes], target.reverses);

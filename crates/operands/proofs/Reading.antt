@@ -8,7 +8,7 @@ use native.Mathlib.Omega.{arith}
 use lib.Dec.{T, eqb}
 use lib.ListN.{length, take}
 use lib.IntN.{ℤ, pos, negsuc}
-use borrow.Author.Tests.{ne_eqb, eqb-true, eqb-false}
+use borrow.Author.Tests.{eqb-true, eqb-false}
 use denote.Enum.Bare.{sameb}
 use Rattle.lists.specs.Lists.{all}
 use Rattle.lists.specs.ListLaws.{T-left, T-right}
@@ -59,12 +59,6 @@ zero_is = high 8388607 (omega arith)
 
 -- ---- the first component of an expression
 
--- 255 is no kind
-there : (x : Component) → kind x ≡ 255 → ⊥
-there (word w) e = absurd (omega (arith, e))
-there (Component.number z) e = absurd (omega (arith, e))
-there (address n) e = absurd (omega (arith, e))
-
 no_value : (x : Component) → (kind x ≡ 1 → ⊥) → pos 0 ≡ value x
 no_value (word w) k = refl
 no_value (Component.number z) k = absurd (k refl)
@@ -95,7 +89,7 @@ module _ {σ : State} {i : ℕ} {x : List ℕ} (l : ExprLent σ i x) where
     pub kind-told : (kind_number k ≡ 1 → ⊥) → ReadsOffered (take 1 es) (Some (offers k 8388607))
     kind-told d =
         record {
-          kind_is = rw (one-there l z) q;
+          kind_is = rw (one-there l z) (ap (λ (n : ℕ). Some n) q);
           is = record { value_is = rw (one-there l z) (zero_is ∙ no_value (component_in x) (λ y. d (q ∙ y))); most = omega arith };
         }
 
@@ -103,7 +97,7 @@ module _ {σ : State} {i : ℕ} {x : List ℕ} (l : ExprLent σ i x) where
     value-told {m} d h =
         let y : kind (component_in x) ≡ 1 = sym q ∙ d in
         record {
-          kind_is = rw (one-there l z) q;
+          kind_is = rw (one-there l z) (ap (λ (n : ℕ). Some n) q);
           is = record {
             value_is = rw (one-there l z) (front-value l.whole z y h);
             most = omega (arith, h.is, code_most (component_in x) (next-component l.whole (omega (arith, z))).first_ok y);
@@ -173,11 +167,11 @@ none-offered s (inr (inr (inr (k, e)))) = as_read s e (switch-told s k)
 
 stop-kinds : (ks : List (ℕ × ℕ)) (xs ys : List Component) → kinds_stop ks (kind_offered xs) (kind_offered ys) ≡ stop_of (of_kinds ks xs ys)
 stop-kinds ks [] ys = refl
-stop-kinds ks (x ∷ xs) [] = rw (ne_eqb (kind x) 255 (there x)) refl
-stop-kinds ks (x ∷ xs) (y ∷ ys) = rw (ne_eqb (kind x) 255 (there x), ne_eqb (kind y) 255 (there y)) refl
+stop-kinds ks (x ∷ xs) [] = refl
+stop-kinds ks (x ∷ xs) (y ∷ ys) = refl
 
 -- what is told of the kinds is told of what offers them
-pub kinds-told : (ks : List (ℕ × ℕ)) (xs ys : List Component) {j k m : ℕ} → j ≡ kind_offered xs → k ≡ kind_offered ys → m ≡ kinds_stop ks j k
+pub kinds-told : (ks : List (ℕ × ℕ)) (xs ys : List Component) {j k : Option ℕ} {m : ℕ} → j ≡ kind_offered xs → k ≡ kind_offered ys → m ≡ kinds_stop ks j k
     → m ≡ stop_of (of_kinds ks xs ys)
 kinds-told ks xs ys h i e = e ∙ rw (h, i) (stop-kinds ks xs ys)
 

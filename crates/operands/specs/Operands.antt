@@ -1,5 +1,5 @@
 -- What reading the operands of an instruction asks and tells, and what putting components in the place of the first makes of a store.
-use Rattle.std.specs.Prelude.{◌≡◌, Bool, cond, List, [], ◌∷◌, ℕ, ◌≤◌, ◌<◌, eqb, length, Option, Some, None, IfSome, Result, IfOk}
+use Rattle.std.specs.Prelude.{◌≡◌, Bool, cond, List, [], ◌∷◌, ℕ, ◌≤◌, ◌<◌, length, Option, Some, None, IfSome, Result, IfOk}
 use Rattle.language.specs.Limits as limit
 use Rattle.language.specs.Instructions.{two_words, two_numbers}
 use Rattle.language.specs.Letters.Letter.{E}
@@ -33,19 +33,21 @@ abbrev pub kinds_by : Kinds → List (ℕ × ℕ)
 kinds_by Words = two_words
 kinds_by Numbers = two_numbers
 
--- the kind of the first component that is offered; 255 where there is none
-abbrev pub kind_offered : List Component → ℕ
-kind_offered [] = 255
-kind_offered (x ∷ xs) = kind x
+-- the kind of the first component that is offered
+abbrev pub kind_offered : List Component → Option ℕ
+kind_offered [] = None
+kind_offered (x ∷ xs) = Some (kind x)
 
--- the kind of what is offered; 255 of nothing
-abbrev pub kind_in : Option Offered → ℕ
-kind_in None = 255
-kind_in (Some x) = kind_number x.kind
+-- the kind of what is offered
+abbrev pub kind_in : Option Offered → Option ℕ
+kind_in None = None
+kind_in (Some x) = Some (kind_number x.kind)
 
 -- what is asked of two such kinds: 52, 53, or 0 where both are answered yes
-abbrev pub kinds_stop : List (ℕ × ℕ) → ℕ → ℕ → ℕ
-kinds_stop ks j k = cond (eqb j 255) 52 (cond (eqb k 255) 52 (cond (listed_pair ks j k) 0 53))
+abbrev pub kinds_stop : List (ℕ × ℕ) → Option ℕ → Option ℕ → ℕ
+kinds_stop ks None k = 52
+kinds_stop ks (Some j) None = 52
+kinds_stop ks (Some j) (Some k) = cond (listed_pair ks j k) 0 53
 
 -- ---- what is asked
 

@@ -24,6 +24,7 @@ pub enum Kinds {
 }
 
 // The kind of a component, and a number that goes with it: the code of its value, that of 0 where it is no number; or how many characters it has.
+// No enum with data: the kinds are compared, and the numbers handed on, whatever they are.
 #[derive(Clone, Copy, Debug, PartialEq, Eq)]
 pub struct Offered {
     pub kind: Kind,
@@ -117,6 +118,7 @@ fn second_offered(state: &Working, arg: table::Argument) -> Option<Offered>
 }
 
 // The first component of expression `i` and a second argument, of kinds that are taken.
+// All callers take numbers; the promise is for words too.
 pub fn two_operands(
     state: &Working,
     i: usize,

@@ -1,5 +1,5 @@
 -- Words read from components and arguments.
-use mathlib.Core.Path.{◌≡◌, refl}
+use mathlib.Core.Path.{◌≡◌, refl, ap}
 use mathlib.Core.List.{List}
 use Prim.Native.Nat.{ℕ, ◌-◌, ◌≤◌, ◌<◌}
 use native.Mathlib.Omega.{arith}
@@ -42,7 +42,7 @@ module _ {σ : State} {i : ℕ} {x : List ℕ} (l : ExprLent σ i x) (g : List �
       → 32768 ≤ length g → ReadsWord (take 1 es) g' (Some (record { kind = k; number = length w }))
   word-told z k {w} v q r =
       record {
-        kind_is = rw (one-there l z) k;
+        kind_is = rw (one-there l z) (ap (λ (n : ℕ). Some n) k);
         is = record {
           is = rw (q, one-there l z, ← v.is) (pasted-front g w (length w) refl);
           inside = rw (q, length-pasted g 0 w (omega (arith, v.most, r))) (omega (arith, v.most, r));

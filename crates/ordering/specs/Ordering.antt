@@ -1,5 +1,5 @@
 -- What WK, MN, PP and NS ask, and what is told of the words that they read.
-use Rattle.std.specs.Prelude.{◌≡◌, Bool, List, [], ◌∷◌, ℕ, ◌≤◌, ◌<◌, length, take, Option, IfSome, Result, IfOk}
+use Rattle.std.specs.Prelude.{◌≡◌, Bool, List, [], ◌∷◌, ℕ, ◌≤◌, ◌<◌, length, take, Option, Some, IfSome, Result, IfOk}
 use Rattle.characters.specs.Characters.{precedes}
 use Rattle.language.specs.Instructions.{two_words}
 use Rattle.language.specs.Limits as limit
@@ -63,7 +63,7 @@ ReadsOther c s a g r = (ins : Inputs) → ReadsWord (side ins s (arg_of (table_o
 
 -- the text w in front of g
 pub record TextIs (w g : List ℕ) (r : Option Offered) : Type 0 where
-  pub kind_is : kind_in r ≡ 0
+  pub kind_is : kind_in r ≡ Some 0
   pub is : IfSome r (λ x. Spelled (word w ∷ []) g x)
 
 -- the characters of both in front of g and h

@@ -18,6 +18,7 @@ ghost use Rattle.ordering.specs.Ordering.{TextIs, OtherReadable, Comparable, Rea
 
 use components::Kind;
 use instructions::{Bench, Question};
+use layout::StatePlaces;
 use operands::{Offered, Pair};
 use state::Working;
 use table::Table;
@@ -30,7 +31,7 @@ pub enum Order {
 }
 
 // Puts the characters of the first component of expression `i` in front of `out`, none of a number or an address: how many they are.
-fn first_word(state: &Working, out: &mut [u8; 32768], i: usize) -> Option<Offered>
+fn first_word(state: &Working, out: &mut [u8; StatePlaces::ROW], i: usize) -> Option<Offered>
     requires { i < limit.expressions }
     ensures reads { ReadsWord (front_part state.now.store i) out.new result }
     ensures stands { Stands state.now }
@@ -48,7 +49,11 @@ fn first_word(state: &Working, out: &mut [u8; 32768], i: usize) -> Option<Offere
 }
 
 // A text in front of `given`.
-fn text_word(table: Table, given: &mut [u8; 32768], text: table::TextRef) -> Option<Offered>
+fn text_word(
+    table: Table,
+    given: &mut [u8; StatePlaces::ROW],
+    text: table::TextRef,
+) -> Option<Offered>
     requires { GoodText table.cells.now text }
     ensures { TextIs (text_of (table_of table.entry.cells.now) text) given.new result }
 {
@@ -63,7 +68,7 @@ fn text_word(table: Table, given: &mut [u8; 32768], text: table::TextRef) -> Opt
 fn other_word(
     table: Table,
     state: &Working,
-    given: &mut [u8; 32768],
+    given: &mut [u8; StatePlaces::ROW],
     arg: table::Argument,
 ) -> Option<Offered>
     requires { OtherReadable table.cells.now arg }
@@ -106,8 +111,8 @@ pub fn compare_numbers(
 fn words_of(
     table: Table,
     state: &Working,
-    hold: &mut [u8; 32768],
-    given: &mut [u8; 32768],
+    hold: &mut [u8; StatePlaces::ROW],
+    given: &mut [u8; StatePlaces::ROW],
     i: usize,
     arg: table::Argument,
 ) -> Result<Pair, Question>

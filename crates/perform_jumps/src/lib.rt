@@ -63,7 +63,7 @@ fn by_word(
     switches::by_word(table, state, source, switch, way)
 }
 
-// SKOIN and WYIN.
+// SKOIN and WYIN. As in `switches`, not one function with `by_word`.
 fn by_number(
     table: Table,
     state: &mut Working,

@@ -46,6 +46,7 @@ pub fn do_zamien(table: Table, bench: &mut Bench, instruction: Instruction) -> R
 }
 
 // What an argument that is a text refers to.
+// As `label_of` and `switch_of` of `decoding`: one function would take a closure that matches.
 fn text_of(a: table::Argument) -> TextRef
     requires { IsText a }
     ensures { a ≡ Text result }

@@ -48,7 +48,7 @@ pub fn schowaj(bench: &mut Bench, i: usize, target: Target) -> Result<(), Questi
     components::put_address(&mut bench.hold, 0, a);
     bench
         .state
-        .write_parts(target, &bench.hold[..5], Amount::SHORT);
+        .write_parts(target, &bench.hold[..Amount::SHORT.bytes], Amount::SHORT);
     Ok(())
 }
 

@@ -2,6 +2,7 @@
 #![tactic(auto)]
 
 ghost use Rattle.std.specs.Prelude.{◌≤◌, length};
+ghost use Rattle.layout.specs.Places.{row};
 ghost use Rattle.packed.specs.Packed.{table_of};
 ghost use Rattle.table.specs.Denote.{arg_of};
 ghost use Rattle.record_tests.specs.RecordPrepares.{WholeOf, RecordTestReadable, PreparesRecords, records_size, RecordTestOf};
@@ -13,6 +14,7 @@ use table::Table;
 use tests::Prepared;
 
 // A test of records as its argument makes it. What `Whole` compares with are the components in the first bytes of the row `given`, so many.
+// Not one `RecordTest<B>` with `records::RecordTest`, as `Prepared` is not one with `Test`.
 #[derive(Clone, Copy, Debug, PartialEq, Eq)]
 pub enum RecordsPrepared {
     First(Prepared),
@@ -46,10 +48,11 @@ fn whole(arg: table::Argument) -> Option<usize>
 pub fn prepare(
     table: Table,
     state: &Working,
-    given: &mut [u8; 32768],
+    given: &mut [u8],
     arg: table::Argument,
 ) -> Result<RecordsPrepared, Question>
-    requires { RecordTestReadable table.cells.now arg }
+    requires readable { RecordTestReadable table.cells.now arg }
+    requires room { row ≤ length given.old }
     ensures { PreparesRecords state.now.store (arg_of (table_of table.entry.cells.now) arg) given.new result }
 {
     if let Some(n) = whole(arg) {

@@ -64,6 +64,7 @@ filed true rs f = record { before = f.before; after = rs ++ f.after }
 filed false rs f = record { before = f.before ++ rs; after = f.after }
 
 -- how many characters components have; how many components and characters records have
+-- A line each, as in `matching` and `records`: the lowest crate that all name is components, whose definitions this file would pass on to all above.
 abbrev pub char_count : List Component → ℕ
 char_count xs = total (λ x. length (chars x)) xs
 

@@ -6,7 +6,7 @@ ghost use Rattle.store.specs.Below.Letters.Letter.{I, Q};
 ghost use Rattle.store.specs.Below.Changes.{with_plus, minus_unless, into, printed, past};
 ghost use Rattle.store.specs.Below.Components.{components_in};
 ghost use Rattle.store.specs.Below.Limits as limit;
-ghost use Rattle.store.specs.Below.LayoutPlaces.{plus_scalar, next_scalar, last_scalar, components_scalar, characters_scalar, records_scalar};
+ghost use Rattle.store.specs.Below.LayoutPlaces.{plus_scalar, next_scalar, last_scalar, components_scalar, characters_scalar, records_scalar, row};
 ghost use Rattle.strings.specs.Strings.{Pushable};
 ghost use Rattle.state.specs.Working.{HoldsState, Stands, on_store, nth, reading, writing, row_of};
 ghost use Rattle.state.specs.Blocks.{Told, ReadTo, ExprLent, OutputLong, Readable, exprs_exchanged, pushed, totalled, Raisable, Lowerable, PartsDroppable, PartsWritable, Printable};
@@ -296,9 +296,10 @@ impl Working {
     }
 
     // Exchanges the expressions `i` and `j`.
-    pub fn exchange_exprs(&mut self, hold: &mut [u8; 32768], i: usize, j: usize)
+    pub fn exchange_exprs(&mut self, hold: &mut [u8], i: usize, j: usize)
         requires first { i < limit.expressions }
         requires second { j < limit.expressions }
+        requires room { row ≤ length hold.old }
         ensures { HoldsState self.new (on_store (exprs_exchanged i j) self.old) }
     {
         self.strings.exchange(hold, i, j);

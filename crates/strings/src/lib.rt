@@ -2,7 +2,7 @@
 #![tactic(auto)]
 
 ghost use Rattle.std.specs.Prelude.{◌≡◌, ◌<◌, ◌≤◌, List, [], ℕ, replicate, length, take, drop};
-ghost use Rattle.gaps.specs.Below.LayoutPlaces.{strings_count, strings_bytes};
+ghost use Rattle.gaps.specs.Below.LayoutPlaces.{strings_count, strings_bytes, row};
 ghost use Rattle.gaps.specs.Pool.{string, abs, Fine};
 ghost use Rattle.gaps.specs.Gaps.{pushed_front, pushed_back};
 ghost use Rattle.store.specs.Store.{dropped_front, moved_front_to_back, moved_back_to_front, exchanged};
@@ -94,8 +94,9 @@ impl Strings {
     }
 
     // Moves the first `n` bytes of string `i` to the end of string `j`.
-    pub fn move_front_to_back(&mut self, hold: &mut [u8; 32768], i: usize, j: usize, n: usize)
-        requires { Movable self.old i j n }
+    pub fn move_front_to_back(&mut self, hold: &mut [u8], i: usize, j: usize, n: usize)
+        requires movable { Movable self.old i j n }
+        requires room { row ≤ length hold.old }
         ensures { self.new ≡ moved_front_to_back i j n self.old }
     {
         store::move_front_to_back(
@@ -110,8 +111,10 @@ impl Strings {
     }
 
     // Moves the last `n` bytes of string `i` to the front of string `j`.
-    pub fn move_back_to_front(&mut self, hold: &mut [u8; 32768], i: usize, j: usize, n: usize)
-        requires { Movable self.old i j n }
+    // Not one with `move_front_to_back`: the two cut and join at other ends, and each caller names one; by a flag each would compute the other away again.
+    pub fn move_back_to_front(&mut self, hold: &mut [u8], i: usize, j: usize, n: usize)
+        requires movable { Movable self.old i j n }
+        requires room { row ≤ length hold.old }
         ensures { self.new ≡ moved_back_to_front i j n self.old }
     {
         store::move_back_to_front(
@@ -126,9 +129,10 @@ impl Strings {
     }
 
     // Exchanges the strings `i` and `j`.
-    pub fn exchange(&mut self, hold: &mut [u8; 32768], i: usize, j: usize)
+    pub fn exchange(&mut self, hold: &mut [u8], i: usize, j: usize)
         requires first { i < strings_count }
         requires second { j < strings_count }
+        requires room { row ≤ length hold.old }
         ensures { self.new ≡ exchanged i j self.old }
     {
         store::exchange(

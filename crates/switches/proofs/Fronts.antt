@@ -1,14 +1,15 @@
 -- The component in front of an expression, in its bytes; and the entry of a switch that it names.
 use mathlib.Core.Path.{◌≡◌, refl, sym, ap, ◌∙◌, subst}
-use mathlib.Core.Bool.{Bool, true, false, ◌&&◌}
+use mathlib.Core.Bool.{Bool, true, false, cond, ◌&&◌}
 use mathlib.Core.List.{List, [], ◌∷◌}
 use Prim.Native.Nat.{ℕ, zero, suc, pred, ◌+◌, ◌-◌, ◌≤◌, ◌<◌}
 use native.Mathlib.Omega.{arith}
-use lib.Dec.{T, leb}
+use lib.Dec.{T, leb, ltb}
 use lib.IntN.{ℤ, pos, negsuc, nat_abs}
 use lib.ListN.{length, take, drop}
 use lib.Signed.{lt_z}
-use borrow.Author.Tests.{le-leb, lt-leb, lt-ltb}
+use borrow.Author.Tests.{le-leb, lt-leb, lt-ltb, ltb-true, ltb-false}
+use Rattle.std.specs.Bool.{then_some}
 use Rattle.std.specs.Prelude.{Option, Some, None, position}
 use Rattle.lists.specs.Lists.{filled}
 use Rattle.lists.specs.SearchLaws.{ahead-is}
@@ -142,16 +143,16 @@ module _ {c : List ℕ} {k : ℕ} (g : GoodSwitch c k) {σ : State} {i : ℕ} {x
   pub number-none : v < 8388608 → None ≡ numbered_entry c k σ.store i
   number-none h = rw (below-none z n v code-there h) refl
 
-  module _ {m : ℕ} (a : Number (switch_size (table_of c) k) 256 m) (h : 8388608 ≤ v) where
-    pub number_past : m ≤ v - 8388608 → None ≡ numbered_entry c k σ.store i
-    number_past w =
-        let e = (above-is z n v code-there h).0 in
-        rw (e, lt-leb (suc (v - 8388608)) n (omega (arith, a.is, many g))) refl
-
-    pub number-some : v - 8388608 < m → Some (v - 8388608) ≡ numbered_entry c k σ.store i
-    number-some w =
-        let e = above-is z n v code-there h in
-        rw (e.0, e.1, le-leb (suc (v - 8388608)) n (omega (arith, a.is, many g))) refl
+  -- entry j, if there are so many
+  pub number-some : {m : ℕ} → Number (switch_size (table_of c) k) 256 m → 8388608 ≤ v → {j : ℕ} → j ≡ v - 8388608
+      → then_some (ltb j m) j ≡ numbered_entry c k σ.store i
+  number-some {m} a h {j} p =
+      let e = above-is z n v code-there h in
+      rw (e.0, e.1, ← p) (go (ltb j m) refl)
+    where
+      go : (t : Bool) → ltb j m ≡ t → then_some (ltb j m) j ≡ cond (leb (suc j) n) (Some j) None
+      go true q = rw (q, le-leb (suc j) n (omega (arith, a.is, many g, ltb-true j m q))) refl
+      go false q = rw (q, lt-leb (suc j) n (omega (arith, a.is, many g, ltb-false j m q))) refl
 
 -- ---- where an entry leads
 

@@ -60,7 +60,7 @@ module _ {σ : State} (h : Stands σ) {c : List ℕ} (i : ℕ) {k j : ℕ} (way 
   pub went-by : {σ' σ'' : State} → HoldsState σ' (going (going_by way t) σ) → HoldsState σ'' (on_store used_front σ')
       → Goes σ 0 σ'' (entry_row (going_by way) c k j σ.store b i)
   went-by g m =
-      goes-made h (none, used_front σ.store, to_goal) none-yes (can_lead way (entry_goal c k j) σ.stack)
+      goes-made (none, used_front σ.store, to_goal) none-yes (can_lead way (entry_goal c k j) σ.stack)
       (rw (made_after none used_front to_goal σ) (after-state (rw q.is at g) (on_store used_front) m))
 
   pub went-full : {x : ℕ} {σ' : State} → Led σ (going_by way t) x σ' → (x ≡ 0 → ⊥) → Goes σ x σ' (entry_row (going_by way) c k j σ.store b i)
@@ -225,7 +225,7 @@ module _ {σ : State} (h : Stands σ) (c : List ℕ) (i k : ℕ) (b : Bool) wher
     word-on way e g ins =
         let a = needs 0 (front_part s i) in
         rw (row-word c s k i ins way b, none-met c s k i f e)
-        (goes-made h (a, missing way s, on) (needs-yes 0 (front_part s i) q) refl (rw (made_after a (missing way) on σ) g))
+        (goes-made (a, missing way s, on) (needs-yes 0 (front_part s i) q) refl (rw (made_after a (missing way) on σ) g))
 
     pub szukaj-met : {j : ℕ} → o ≡ Some j → {σ' : State} → HoldsState σ' (on_store (used (nth (reading b) i)) σ)
         → DoesIn σ 0 σ' (λ ins. row (program_of c) ins s (nth (reading b) i) (switch k) nothing SZUKAJ)

@@ -59,14 +59,10 @@ fn entry_by(
 {
     let x = instructions::front_of(state, i, Kind::Number)?;
     let v = components::number_of(x);
-    if v < FIRST {
+    let Some(j) = v.checked_sub(FIRST) else {
         return Ok(None);
-    }
-    let j = v - FIRST;
-    if table.switch_count(switch) <= j {
-        return Ok(None);
-    }
-    Ok(Some(j))
+    };
+    Ok((j < table.switch_count(switch)).then_some(j))
 }
 
 // The instruction that entry `j` of a switch leads to.
@@ -133,6 +129,7 @@ pub fn by_word(
 }
 
 // SKOIN and WYIN.
+// Not one function with `by_word`: what is done without an entry differs, and each has a row of its own.
 pub fn by_number(
     table: Table,
     state: &mut Working,

@@ -7,6 +7,7 @@ ghost use Rattle.language.specs.Limits as limit;
 ghost use Rattle.language.specs.Program.Arg.{letter};
 ghost use Rattle.language.specs.Values as values;
 ghost use Rattle.machine.specs.Arguments.{expr, present};
+ghost use Rattle.layout.specs.Places.{row};
 ghost use Rattle.table.specs.Below.Packed.{table_of};
 ghost use Rattle.state.specs.Working.{nth};
 ghost use Rattle.instructions.specs.Fronts.{front_part};
@@ -16,12 +17,14 @@ ghost use Rattle.tests.specs.Prepares.{LetterReadable, TestReadable, Beside, Put
 
 use components::{Kind, ZERO};
 use instructions::Question;
+use language::Machine;
 use matching::Test;
 use state::Working;
 use table::{Table, TextRef};
 
 // A test as its argument makes it. What `Among` compares with are the components in the first bytes of the row `given`, so many.
 // A count and no slice: the row is a field of the bench, which the caller keeps.
+// Not one `Test<B>` with `matching::Test`: `until` and all that go by it speak of a test with its bytes, and a type argument would stand in each of them.
 #[derive(Clone, Copy, Debug, PartialEq, Eq)]
 pub enum Prepared {
     All,
@@ -46,8 +49,9 @@ impl Prepared {
 }
 
 // Puts the first component of expression `i` in front of `given`.
-pub fn put_first(state: &Working, given: &mut [u8; 32768], i: usize) -> Result<usize, Question>
-    requires { i < limit.expressions }
+pub fn put_first(state: &Working, given: &mut [u8], i: usize) -> Result<usize, Question>
+    requires index { i < limit.expressions }
+    requires room { row ≤ length given.old }
     ensures { PutBeside (present (front_part state.now.store i)) (front_part state.now.store i) given.new result }
 {
     let x = state.expr_bytes(i);
@@ -60,8 +64,9 @@ pub fn put_first(state: &Working, given: &mut [u8; 32768], i: usize) -> Result<u
 }
 
 // Puts all components of expression `i` in front of `given`.
-pub fn put_all(state: &Working, given: &mut [u8; 32768], i: usize) -> usize
-    requires { i < limit.expressions }
+pub fn put_all(state: &Working, given: &mut [u8], i: usize) -> usize
+    requires index { i < limit.expressions }
+    requires room { row ≤ length given.old }
     ensures { Beside (expr state.now.store (nth letters.Letter.E i)) given.new result }
 {
     let x = state.expr_bytes(i);
@@ -70,19 +75,21 @@ pub fn put_all(state: &Working, given: &mut [u8; 32768], i: usize) -> usize
 }
 
 // Puts a text as a word in front of `given`.
-pub fn put_text(table: Table, given: &mut [u8; 32768], text: TextRef) -> usize
-    requires { GoodText table.cells.now text }
+pub fn put_text(table: Table, given: &mut [u8], text: TextRef) -> usize
+    requires good { GoodText table.cells.now text }
+    requires room { row ≤ length given.old }
     ensures { Beside (values.Component.word (text_of (table_of table.entry.cells.now) text) ∷ []) given.new result }
 {
-    let mut w = [0u8; 60];
+    let mut w = [0u8; Machine::ITEM];
     let n = table.put_text(text, &mut w);
     components::put_word(given, 0, &w[..n]);
     1 + n
 }
 
 // B: the first component of expression `i`.
-fn prepare_first(state: &Working, given: &mut [u8; 32768], i: usize) -> Result<Prepared, Question>
-    requires { i < limit.expressions }
+fn prepare_first(state: &Working, given: &mut [u8], i: usize) -> Result<Prepared, Question>
+    requires index { i < limit.expressions }
+    requires room { row ≤ length given.old }
     ensures { Prepares state.now.store (nth letters.Letter.B i) given.new result }
 {
     let len = put_first(state, given, i)?;
@@ -93,10 +100,10 @@ fn prepare_first(state: &Working, given: &mut [u8; 32768], i: usize) -> Result<P
 fn prepare_number(code: usize) -> Result<Prepared, Question>
     ensures { NumberPrepares code result }
 {
-    if code < ZERO {
+    let Some(n) = code.checked_sub(ZERO) else {
         return Err(Question::Range);
-    }
-    Ok(Prepared::Count(code - ZERO))
+    };
+    Ok(Prepared::Count(n))
 }
 
 // N: the first component of expression `i` as a count.
@@ -111,11 +118,12 @@ fn prepare_count(state: &Working, i: usize) -> Result<Prepared, Question>
 // A letter with index `n`.
 fn prepare_letter(
     state: &Working,
-    given: &mut [u8; 32768],
+    given: &mut [u8],
     l: table::Letter,
     n: usize,
 ) -> Result<Prepared, Question>
-    requires { LetterReadable l n }
+    requires readable { LetterReadable l n }
+    requires room { row ≤ length given.old }
     ensures { Prepares state.now.store (letter (letter_of l) n) given.new result }
 {
     let i = n - 1;
@@ -130,10 +138,11 @@ fn prepare_letter(
 pub fn prepare(
     table: Table,
     state: &Working,
-    given: &mut [u8; 32768],
+    given: &mut [u8],
     arg: table::Argument,
 ) -> Result<Prepared, Question>
-    requires { TestReadable table.cells.now arg }
+    requires readable { TestReadable table.cells.now arg }
+    requires room { row ≤ length given.old }
     ensures { Prepares state.now.store (arg_of (table_of table.entry.cells.now) arg) given.new result }
 {
     match arg {

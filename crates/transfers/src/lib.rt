@@ -54,11 +54,16 @@ pub fn wstaw(bench: &mut Bench, source: Source, target: FileTarget) -> Result<()
     records::put_record(&mut bench.hold, last + 1, x);
     bench.state.past_parts(source, amount);
     let record = Amount {
-        parts: amount.parts,
-        bytes: n + 7,
-        chars: amount.chars,
+        bytes: n + records::FRAME,
+        ..amount
     };
-    filing::write_records(&mut bench.state, target, &bench.hold[..n + 7], 1, record);
+    filing::write_records(
+        &mut bench.state,
+        target,
+        &bench.hold[..record.bytes],
+        1,
+        record,
+    );
     Ok(())
 }
 
@@ -83,9 +88,8 @@ pub fn pobierz(bench: &mut Bench, source: Source, target: Target) -> Result<(), 
     }
     components::copy(&mut bench.hold, x, target.reverses);
     let record = Amount {
-        parts: amount.parts,
-        bytes: n + 7,
-        chars: amount.chars,
+        bytes: n + records::FRAME,
+        ..amount
     };
     filing::past_records(&mut bench.state, &mut bench.given, source, 1, record);
     bench.state.write_parts(target, &bench.hold[..n], amount);

@@ -1,12 +1,10 @@
 -- `arithmetic::sum` meets its contract.
-use Rattle.arithmetic.proofs.Numbers.{sum_low, sum-high, sum-in}
+use Rattle.std.proofs.Common.{rules}
+use Rattle.arithmetic.proofs.Numbers.{sum_out, sum-in}
 use Rattle.arithmetic.proofs.sum.Goals as goal
 
-pub returns-then-s-lt-ZERO : goal.returns-then-s-lt-ZERO
-returns-then-s-lt-ZERO c = sum_low c.requires c.if-s-lt-ZERO.true
-
-pub returns-then-s : goal.returns-then-s
-returns-then-s c = sum-high c.requires c.if-s.true
+pub returns-then-not-contains : goal.returns-then-not-contains
+returns-then-not-contains c = sum_out c.requires (search rules)
 
 pub returns : goal.returns
-returns c = sum-in c.requires c.if-s-lt-ZERO.false c.if-s.false
+returns c = sum-in c.requires (search rules)

@@ -12,4 +12,4 @@ returns-in-Text c = as-put (table_of c.args.table.cells.now) c.in-Text.is (text_
 
 pub returns-in-Number : goal.returns-in-Number
 returns-in-Number c =
-    as-put (table_of c.args.table.cells.now) c.in-Number.is (number_put c.in-Number.v (c.requires.good.number c.in-Number.v c.in-Number.is) c.args.out.now c.put_number.ensures (omega (arith, c.put_number.array_long)))
+    as-put (table_of c.args.table.cells.now) c.in-Number.is (number_put c.in-Number.v (c.requires.good.number c.in-Number.v c.in-Number.is) c.args.out.now c.put_number.ensures (omega arith))

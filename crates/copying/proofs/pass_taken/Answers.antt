@@ -6,8 +6,8 @@ use Rattle.instructions.proofs.Answers.{one-after}
 use Rattle.copying.proofs.Taking.{passable, gone}
 use Rattle.copying.proofs.pass_taken.Goals as goal
 
-pub pass_records-requires : goal.pass_records-requires
-pass_records-requires c = passable c.args.state.now c.requires.source c.after_bytes.ensures c.count-t.ensures
+pub pass_records-requires-clause-passable : goal.pass_records-requires-clause-passable
+pass_records-requires-clause-passable c = passable c.args.state.now c.requires.source c.after_bytes.ensures c.count-t.ensures
 
 pub returns : goal.returns
 returns c =

@@ -4,4 +4,4 @@ use Rattle.filing.proofs.Removed.{before_lent}
 use Rattle.filing.proofs.before_bytes.Goals as goal
 
 pub returns : goal.returns
-returns c = before_lent (held c.state.invariant c.state.view_is) c.requires c.string_of.ensures.is c.string_of.ensures.most
+returns c = before_lent (held c.state.invariant c.state.view_is) c.requires (rw c.before_string.ensures at c.string_of.ensures.is) c.string_of.ensures.most

@@ -6,7 +6,7 @@ use Rattle.filing.proofs.Removed.{records-droppable, records-lowerable, records-
 use Rattle.filing.proofs.drop_records.Goals as goal
 
 pub drop_front-requires : goal.drop_front-requires
-drop_front-requires c = records-droppable (held c.state.invariant c.state.view_is) c.requires
+drop_front-requires c = rw c.after_string.ensures (records-droppable (held c.state.invariant c.state.view_is) c.requires)
 
 pub lower-requires : goal.lower-requires
 lower-requires c = records-lowerable (held c.state.invariant c.state.view_is) c.requires
@@ -16,8 +16,8 @@ overflow_sub-state c = omega (arith, records-fewer (held c.state.invariant c.sta
 
 pub invariant_of-state : goal.invariant_of-state
 invariant_of-state c =
-    stands (records-dropped (held c.state.invariant c.state.view_is) c.requires c.drop_front.ensures c.lower.ensures refl refl)
+    stands (records-dropped (held c.state.invariant c.state.view_is) c.requires (rw c.after_string.ensures at c.drop_front.ensures) c.lower.ensures refl refl)
 
 pub returns : goal.returns
 returns c =
-    becomes (records-dropped (held c.state.invariant c.state.view_is) c.requires c.drop_front.ensures c.lower.ensures refl refl)
+    becomes (records-dropped (held c.state.invariant c.state.view_is) c.requires (rw c.after_string.ensures at c.drop_front.ensures) c.lower.ensures refl refl)

@@ -3,4 +3,4 @@ use Rattle.jumps.proofs.Rows.{target_is, skocz-done}
 use Rattle.jumps.proofs.skocz.Goals as goal
 
 pub returns : goal.returns
-returns c = skocz-done c.stands.ensures c.args.table.cells.now c.args.label (target_is c.requires c.target.ensures) c.go_to.ensures
+returns c = skocz-done c.args.table.cells.now c.args.label (target_is c.requires c.target.ensures) c.go_to.ensures

@@ -6,4 +6,4 @@ pub returns-then-depth-eq0 : goal.returns-then-depth-eq0
 returns-then-depth-eq0 c = wroc-none c.depth.ensures.stands c.depth.ensures c.if-depth-eq0.true
 
 pub returns : goal.returns
-returns c = wroc-done c.depth.ensures.stands (a-call c.depth.ensures c.if-depth-eq0.false) c.go_back.ensures
+returns c = wroc-done (a-call c.depth.ensures c.if-depth-eq0.false) c.go_back.ensures

@@ -3,4 +3,4 @@ use Rattle.jumps.proofs.Rows.{target_is, wykonaj-goes}
 use Rattle.jumps.proofs.wykonaj.Goals as goal
 
 pub returns : goal.returns
-returns c = wykonaj-goes c.stands.ensures c.args.table.cells.now c.args.label (target_is c.requires.label c.target.ensures) c.call.ensures
+returns c = wykonaj-goes c.args.table.cells.now c.args.label c.stands.ensures (target_is c.requires.label c.target.ensures) c.call.ensures

@@ -7,6 +7,7 @@ use Rattle.layout.specs.Components.{components_in}
 use Rattle.tests.specs.Prepares.{until_in}
 use Rattle.state.specs.Working.{nth, reading, writing}
 use Rattle.instructions.proofs.Answers.{one-after, tried-full}
+use Rattle.instructions.proofs.Room.{freed-few}
 use Rattle.moves.specs.Moves.{sent}
 use Rattle.moves.proofs.Rows.{done}
 use Rattle.moves.proofs.Taking.{taken-part, took, more, copy-room, held-turned, fits-sent, writable, sent-done}
@@ -15,17 +16,18 @@ use Rattle.moves.proofs.send.Goals as goal
 pub count-t-requires : goal.count-t-requires
 count-t-requires c = record { whole = c.expr_bytes-x.ensures.whole; fitting = c.with.ensures.fitting c.requires.beside.fitting }
 
-pub has_room-requires : goal.has_room-requires
-has_room-requires c =
+pub has_room_after-requires : goal.has_room_after-requires
+has_room_after-requires c =
     let x = c.expr_bytes-x.ensures in
-    more x.stands c.requires.source x (rw c.with.ensures.parts at c.count-t.ensures)
+    let m = more x.stands c.requires.source x (rw c.with.ensures.parts at c.count-t.ensures) in
+    record { freed = freed-few _ c.args.source.removes c.freed.ensures m; new = m }
 
-pub returns-then-not-has_room : goal.returns-then-not-has_room
-returns-then-not-has_room c =
+pub returns-then-not-has_room_after : goal.returns-then-not-has_room_after
+returns-then-not-has_room_after c =
     let x = c.expr_bytes-x.ensures in
     let from = c.args.source in
     let to = c.args.target in
-    tried-full x.stands _ refl (fits-sent x.stands c.requires.source x (rw c.with.ensures.parts at c.count-t.ensures) from.removes to.j c.requires.target to.reverses to.at_end ∙ sym c.has_room.ensures ∙ c.if-not-has_room.true)
+    tried-full x.stands _ refl (fits-sent x.stands c.requires.source x (rw c.with.ensures.parts at c.count-t.ensures) from.removes to.j c.requires.target to.reverses to.at_end ∙ rw c.freed.ensures at (sym c.has_room_after.ensures) ∙ c.if-not-has_room_after.true)
 
 pub copy-requires : goal.copy-requires
 copy-requires c =
@@ -39,7 +41,7 @@ deliver-requires c =
     let from = c.args.source in
     let to = c.args.target in
     let held = held-turned c.args.bench.now.hold to.reverses t.result.amount.bytes c.copy.ensures (taken-part x.stands c.requires.source x (rw c.with.ensures.parts at c.count-t.ensures)) (took x.stands c.requires.source x (rw c.with.ensures.parts at c.count-t.ensures)).bytes_is in
-    writable x.stands c.requires.source x (rw c.with.ensures.parts at c.count-t.ensures) from.removes to.j c.requires.target to.reverses to.at_end held (sym c.has_room.ensures ∙ c.if-not-has_room.false) c.past_parts.ensures
+    writable x.stands c.requires.source x (rw c.with.ensures.parts at c.count-t.ensures) from.removes to.j c.requires.target to.reverses to.at_end held (rw c.freed.ensures at (sym c.has_room_after.ensures) ∙ c.if-not-has_room_after.false) c.past_parts.ensures
 
 pub returns : goal.returns
 returns c =

@@ -30,8 +30,8 @@ past_parts-requires c =
     let f = IfOk-at_ok _ c.in_ok-x.was c.front_of.ensures.is in
     address-droppable f.lent.stands c.args.source.removes c.requires.expression c.requires.file f
 
-pub point-requires : goal.point-requires
-point-requires c =
+pub point-requires-clause-pointable : goal.point-requires-clause-pointable
+point-requires-clause-pointable c =
     let f = IfOk-at_ok _ c.in_ok-x.was c.front_of.ensures.is in
     then-pointable f.lent.stands c.args.source.removes c.requires.expression c.requires.file f c.address_of.ensures c.locate.ensures c.in-Some.is c.past_parts.ensures
 

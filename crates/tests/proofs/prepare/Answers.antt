@@ -3,8 +3,8 @@ use Rattle.table.specs.Below.Packed.{table_of}
 use Rattle.tests.proofs.Values.{letter-readable, as_read, class-met, text-read}
 use Rattle.tests.proofs.prepare.Goals as goal
 
-pub prepare_letter-requires : goal.prepare_letter-requires
-prepare_letter-requires c = letter-readable c.requires c.in-Indexed.is
+pub prepare_letter-requires-clause-readable : goal.prepare_letter-requires-clause-readable
+prepare_letter-requires-clause-readable c = letter-readable c.requires.readable c.in-Indexed.is
 
 pub returns-in-Class : goal.returns-in-Class
 returns-in-Class c =

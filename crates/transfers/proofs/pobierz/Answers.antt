@@ -43,8 +43,8 @@ copy-requires c =
       room = omega (arith, c.contents_of-x.ensures.most, c.after_bytes-f.ensures.most);
     }
 
-pub past_records-requires : goal.past_records-requires
-past_records-requires c =
+pub past_records-requires-clause-droppable : goal.past_records-requires-clause-droppable
+past_records-requires-clause-droppable c =
     let s = c.args.source in
     let t = c.args.target in
     let some = false-eqb (length c.after_bytes-f.result.now) 0 c.if-is_empty.ensures in
