@@ -4,8 +4,9 @@ use mathlib.Core.Bool.{Bool, true, false, cond}
 use mathlib.Core.List.{List}
 use Prim.Native.Nat.{ℕ, ◌/◌, ◌%◌, ◌≤◌}
 use native.Mathlib.Omega.{arith}
-use lib.Dec.{T}
+use lib.Dec.{T, eqb}
 use lib.ListN.{length}
+use Rattle.std.specs.Prelude.{Option, None, Some, MatchOption}
 use borrow.Author.Tests.{ne_eqb, le-leb}
 use Rattle.std.specs.Bool.{passes}
 use lib.Ieee.Bits.{is_true}
@@ -34,9 +35,9 @@ use Rattle.calls.proofs.AnswerLaws.{number_most, count-within, packed-number, pa
 use Rattle.interpreter.specs.Answers.{Answers}
 use Rattle.viewing.specs.Viewing.{Rests}
 use Rattle.console.specs.Console.{budget, refusal_line, ran_bytes, program_bytes}
-use Rattle.console.specs.Parts.{Put, answer_by}
+use Rattle.console.specs.Parts.{Put, answer_of}
 use Rattle.console.proofs.Putting.{put_same}
-use Rattle.batch.specs.Printed.{table_bytes, Ended}
+use Rattle.batch.specs.Printed.{table_bytes, stop_by, Ended, printed_most}
 
 -- an answer with no value, read back
 upper : {r n : ℕ} → r ≡ packed n 0 → r / 4294967296 ≡ n
@@ -106,6 +107,13 @@ module _ (c m : List ℕ) (ins : Inputs) (long : limit.state ≤ length m) {r : 
 
 -- ---- run
 
+stop-most : {n : ℕ} → n ≤ 81 → MatchOption (stop_by n) (Unit {0}) (λ k. k ≤ 81)
+stop-most {n} h = go (eqb n 81)
+  where
+    go : (b : Bool) → MatchOption (cond b None (Some n)) (Unit {0}) (λ k. k ≤ 81)
+    go true = tt
+    go false = h
+
 module _ {c m : List ℕ} {ins : Inputs} {m₁ : List ℕ} (long : limit.state ≤ length m) (b : Begun c m ins m₁) {r : ℕ} {m₂ : List ℕ} (h : Answers (run_of c ins budget m₁) r m₂) where
   abbrev p : Program
   p = program_of c
@@ -166,39 +174,39 @@ module _ {c m : List ℕ} {ins : Inputs} {m₁ : List ℕ} (long : limit.state �
       let f = memory-facts p ins m₂ g in
       record { long = f.long; cells = f.cells; fine = rw left fx }
 
-  ended : {d : ℕ} → 4224 ≤ d → Ended c m₂ (r / 4294967296) (r % 4294967296) d
+  ended : {d : ℕ} → printed_most ≤ d → Ended c m₂ (stop_by (r / 4294967296)) (r % 4294967296) d
   ended room = record {
     good = passes _ b.table;
     rests = rests;
     next = rw left (open-state p ins x.state gx).next;
-    number_most = rw number_is number_low;
+    number_most = stop-most (rw number_is number_low);
     count_most = rw count_is count_low;
     room = room;
   }
 
   -- a stop's number is not that of a pause
   not-pause : (a : Answer) (n : ℕ) → Says (step p ins) budget n x.state a → (reply_number (run_reply a n) ≡ 81 → reply_count (run_reply a n) ≡ budget)
-      → answer_by (reply_number (run_reply a n)) ≡ a
+      → answer_of (stop_by (reply_number (run_reply a n))) ≡ a
   not-pause pause n w k = refl
   not-pause (stopped s) n (halted l e) k = rw (ne_eqb s 81 (λ z. omega (arith, k z, l))) refl
 
-  answer-is : answer_by (r / 4294967296) ≡ x.answer
+  answer-is : answer_of (stop_by (r / 4294967296)) ≡ x.answer
   answer-is =
       let u = run_ends c m₁ (passes _ b.table) ins gi memory budget in
       let e = is-accepted c m₁ (run_on ins budget) b.table b.right (is_true (good_memory p ins m₁) memory) in
       let k : reply_number reply ≡ 81 → reply_count reply ≡ budget =
       subst (λ y. reply_number y.reply ≡ 81 → reply_count y.reply ≡ budget) (sym e ∙ made) u.pauses.0 in
-      ap answer_by number_is ∙ not-pause x.answer x.count (run-lawful (step p ins) budget started).says k
+      ap (λ (k : ℕ). answer_of (stop_by k)) number_is ∙ not-pause x.answer x.count (run-lawful (step p ins) budget started).says k
 
   table_is : table_bytes c ins ≡ ran_bytes p x
   table_is = bytes_run c ins b.table ∙ bytes-by c ins true b.right
 
-  run-printed : ran_bytes p (ran (answer_by (r / 4294967296)) (r % 4294967296) (state_of m₂)) ≡ table_bytes c ins
+  run-printed : ran_bytes p (ran (answer_of (stop_by (r / 4294967296))) (r % 4294967296) (state_of m₂)) ≡ table_bytes c ins
   run-printed = joint (same-run p x answer-is (count_is ∙ count-told x.answer x.count) left) table_is
 
-  module _ {n v : ℕ} (e : n ≡ r / 4294967296) (f : v ≡ r % 4294967296) where
-    pub ended-as : {d : ℕ} → 4224 ≤ d → Ended c m₂ n v d
+  module _ {o : Option ℕ} {v : ℕ} (e : o ≡ stop_by (r / 4294967296)) (f : v ≡ r % 4294967296) where
+    pub ended-as : {d : ℕ} → printed_most ≤ d → Ended c m₂ o v d
     ended-as room = rw (e, f) (ended room)
 
-    pub run-put : {d d' : List ℕ} {q : ℕ} → Put d 0 (ran_bytes p (ran (answer_by n) v (state_of m₂))) d' q → Put d 0 (table_bytes c ins) d' q
+    pub run-put : {d d' : List ℕ} {q : ℕ} → Put d 0 (ran_bytes p (ran (answer_of o) v (state_of m₂))) d' q → Put d 0 (table_bytes c ins) d' q
     run-put h = put_same run-printed (rw (e, f) at h)

@@ -4,6 +4,7 @@ use mathlib.Core.List.{List, [], ◌∷◌}
 use Prim.Native.Nat.{ℕ, ◌+◌, ◌*◌, ◌%◌, ◌≤◌, ◌<◌}
 use native.Mathlib.Omega.{arith}
 use lib.ListN.{length}
+use Rattle.std.specs.Prelude.{Option, None, Some, MatchOption}
 use Rattle.language.specs.Limits as limit
 use Rattle.language.specs.Program.{instr_at}
 use Rattle.cells.specs.Cells.{Number}
@@ -16,12 +17,16 @@ use Rattle.table.specs.Good.{GoodInstruction}
 use Rattle.table.specs.GoodLaws.{good-instruction}
 use Rattle.machine.specs.Runs.{ran}
 use Rattle.console.specs.Console.{end_line, ran_bytes}
-use Rattle.console.specs.Parts.{Put, EndRoom, answer_by}
+use Rattle.console.specs.Parts.{Put, SmallStop, EndRoom, answer_of}
 use Rattle.console.proofs.Putting.{put-long, put_then}
 use Rattle.viewing.specs.Viewing.{Shows}
 use Rattle.batch.specs.Printed.{Ended}
 
-module _ {c m : List ℕ} {number count long : ℕ} (e : Ended c m number count long) {k : ℕ} (n : Number (state_of m).next 16777216 k) where
+small-stop : (o : Option ℕ) → MatchOption o (Unit {0}) (λ n. n ≤ 81) → SmallStop o
+small-stop None h = tt
+small-stop (Some n) h = omega (arith, h)
+
+module _ {c m : List ℕ} {stopped : Option ℕ} {count long : ℕ} (e : Ended c m stopped count long) {k : ℕ} (n : Number (state_of m).next 16777216 k) where
   current : GoodInstruction c k (cell (table_of c) (8 + 4 * k) % 64)
   current = good-instruction c e.good k (rw n.is e.next) (cell (table_of c) (8 + 4 * k) % 64) refl
 
@@ -39,15 +44,15 @@ module _ {c m : List ℕ} {number count long : ℕ} (e : Ended c m number count 
     line_most = rw (r.is ∙ sym (ap (λ x. x.line) current.is)) current.facts.line_to
 
     module _ {q d d₁ d₂ : List ℕ} {a b : ℕ} (s : Shows m q) (room : long ≡ length d) (p₁ : Put d 0 q d₁ a) (p₂ : Put d₁ a (10 ∷ []) d₂ b) where
-      pub end-room : EndRoom (length d₂) b number l count
+      pub end-room : EndRoom (length d₂) b stopped l count
       end-room = record {
         room = omega (arith, put-long p₁, put-long p₂, p₁.count, p₂.count, s.most, e.room);
-        number_most = omega (arith, e.number_most);
+        number_most = small-stop stopped e.number_most;
         line_most = omega (arith, line_most);
         count_most = omega (arith, e.count_most);
       }
 
-      pub all-printed : {d₃ : List ℕ} {r' : ℕ} → Put d₂ b (end_line (answer_by number) l count) d₃ r'
-          → Put d 0 (ran_bytes (program_of c) (ran (answer_by number) count (state_of m))) d₃ r'
+      pub all-printed : {d₃ : List ℕ} {r' : ℕ} → Put d₂ b (end_line (answer_of stopped) l count) d₃ r'
+          → Put d 0 (ran_bytes (program_of c) (ran (answer_of stopped) count (state_of m))) d₃ r'
       unfolding ran_bytes
       all-printed p₃ = rw (← line_is, ← s.is) (put_then p₁ (put_then p₂ p₃))

@@ -21,7 +21,7 @@ use Rattle.calls.proofs.LoadLaws.{load-accepts, line-within, number-back, line-b
 use Rattle.console.specs.Console.{text_of, input_of, refusal_line, program_bytes, loaded_bytes, printed}
 use Rattle.console.specs.Parts.{Put, TextEnd, RefusalRoom}
 use Rattle.console.proofs.Putting.{put_same}
-use Rattle.batch.specs.Printed.{table_bytes}
+use Rattle.batch.specs.Printed.{table_bytes, printed_most}
 
 -- ---- what is printed
 
@@ -63,7 +63,7 @@ module _ (s : List ℕ) {at : ℕ} (e : TextEnd s at) (text c : List ℕ) (t : t
   abbrev ins : Inputs
   ins = input_of s ∷ [] ∷ []
 
-  pub refusal-room : {long v : ℕ} → 4224 ≤ long → v ≡ r % 4294967296 → RefusalRoom long v
+  pub refusal-room : {long v : ℕ} → printed_most ≤ long → v ≡ r % 4294967296 → RefusalRoom long v
   refusal-room room f = record { room = omega arith; most = rw (f, line_is) (omega (arith, line-within limit.table (text_of s))) }
 
   pub refusal-put : {v q : ℕ} {d d' : List ℕ} → v ≡ r % 4294967296 → (n ≡ 80 → ⊥) → Put d 0 (refusal_line n v) d' q → Put d 0 (printed s) d' q

@@ -16,16 +16,16 @@ use Rattle.check_addresses.specs.Collected.{Collectable, Collected}
 -- ---- collecting
 
 -- the first k places of e, and the addresses of what is left
-pub record Collecting (b d : List ℕ) (n : ℕ) (e : List ℕ) (k : ℕ) (left : List ℕ) : Type 0 where
+pub record Collecting (b d e : List ℕ) (k : ℕ) (left : List ℕ) : Type 0 where
   pub whole : WholeRecords left
   pub long : length e ≡ length d
-  pub is : take k e ++ addresses_in left ≡ take n d ++ addresses_in b
-  pub count : k + length (records_in left) ≡ n + length (records_in b)
+  pub is : take k e ++ addresses_in left ≡ addresses_in b
+  pub count : k + length (records_in left) ≡ length (records_in b)
 
-pub collecting-none : {b d : List ℕ} {n : ℕ} → Collectable b (length d) n → Collecting b d n d n b
-collecting-none c = record { whole = c.whole; long = refl; is = refl; count = refl }
+pub collecting-none : {b d : List ℕ} → Collectable b (length d) → Collecting b d d 0 b
+collecting-none c = record { whole = c.whole; long = refl; is = refl; count = omega arith }
 
-module _ {b d : List ℕ} {n : ℕ} (c : Collectable b (length d) n) {e : List ℕ} {k : ℕ} {left : List ℕ} (g : Collecting b d n e k left) where
+module _ {b d : List ℕ} (c : Collectable b (length d)) {e : List ℕ} {k : ℕ} {left : List ℕ} (g : Collecting b d e k left) where
   module _ {r t : List ℕ} (f : FrontRecord left r t) where
     one_more : length (records_in left) ≡ 1 + length (records_in t)
     one_more = ap length f.first ∙ omega arith
@@ -33,7 +33,7 @@ module _ {b d : List ℕ} {n : ℕ} (c : Collectable b (length d) n) {e : List �
     pub room : k < length e
     room = omega (arith, one_more, g.count, c.room, g.long)
 
-    pub collecting-next : {a : ℕ} → a ≡ (record_in r).addr → Collecting b d n (set e k a) (k + 1) t
+    pub collecting-next : {a : ℕ} → a ≡ (record_in r).addr → Collecting b d (set e k a) (k + 1) t
     collecting-next {a} q =
         let h : a ≡ (record_in left).addr = q ∙ ap (λ x. x.addr) (record-same f) in
         let m : addresses_in left ≡ (record_in left).addr ∷ addresses_in t = ap (map (λ x. x.addr)) f.first in
@@ -45,7 +45,7 @@ module _ {b d : List ℕ} {n : ℕ} (c : Collectable b (length d) n) {e : List �
           count = omega (arith, one_more, g.count);
         }
 
-  pub collected : left ≡ [] → Collected b d n e k
+  pub collected : left ≡ [] → Collected b e k
   collected h =
       let z : records_in left ≡ [] = records-none left (ap length h) in
       record {

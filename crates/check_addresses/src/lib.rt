@@ -12,7 +12,7 @@ fn is_among(x: u32, list: &[u32]) -> bool
 {
     let mut found = false;
     for y in list {
-        found = found | (x == *y);
+        found |= x == *y;
     }
     found
 }
@@ -30,14 +30,13 @@ pub fn are_different(list: &[u32]) -> bool
     true
 }
 
-// Writes the addresses of the records of `b` into `list` behind the first `n`, and tells how many there are then. The memory is lent, so the count
-// stands beside it.
+// Writes the addresses of the records of `b` into the front of `list`, and tells how many there are. The memory is lent, so the count stands beside it.
 #[tactic(auto, using(records::proofs::Steps::front_shorter, records::proofs::Steps::record_starts, crate::proofs::Loops::room))]
-pub fn collect(b: &[u8], list: &mut [u32], n: usize) -> usize
-    requires { Collectable b.now (length list.old) n }
-    ensures { Collected b.now list.old n list.new result }
+pub fn collect(b: &[u8], list: &mut [u32]) -> usize
+    requires { Collectable b.now (length list.old) }
+    ensures { Collected b.now list.new result }
 {
-    let mut k = n;
+    let mut k = 0;
     let mut left = b;
     while let Some((r, rest)) = records::split_record(left) {
         list[k] = records::address_of(r) as u32;

@@ -1,4 +1,4 @@
-// The questions that every call asks first that is lent a table and inputs: 62 and 61.
+// The questions that every call on one state asks first: 62 of the table and 61 of the inputs.
 #![tactic(auto)]
 
 ghost use Rattle.check_calls.specs.Asked.{Asks};

@@ -10,7 +10,7 @@ ghost use Rattle.layout.specs.Places.{first_switch};
 
 use forms::Forms;
 use language::{Machine, Operator};
-use layout::{ArgumentKind, TablePlaces};
+use layout::{ArgumentKind, Pair, SwitchCell, TablePlaces};
 use table::{Letter, Table};
 
 // Whether there is such an indexed letter.
@@ -18,10 +18,9 @@ use table::{Letter, Table};
 fn letter_fits(v: usize) -> bool
     ensures { result ≡ letter_fits v }
 {
-    match Letter::try_from(v / 64) {
-        Ok(letter) => (0 < v % 64) & (v % 64 <= letter.reach()),
-        Err(_) => false,
-    }
+    let pair = Pair::of(v);
+    Letter::try_from(pair.second).is_ok_and(|letter| (0 < pair.first)
+        & (pair.first <= letter.reach()))
 }
 
 // Whether the argument in a cell `x` is in range.
@@ -29,14 +28,14 @@ fn letter_fits(v: usize) -> bool
 fn arg_fits(table: Table, x: usize) -> bool
     ensures { result ≡ arg_fits (table_of table.entry.cells.now) x }
 {
-    let v = x / 8;
-    match ArgumentKind::try_from(x % 8) {
+    let v = ArgumentKind::value_in(x);
+    match ArgumentKind::in_cell(x) {
         Ok(ArgumentKind::Letter) => letter_fits(v),
         Ok(ArgumentKind::Label) => v < table.labels(),
         Ok(ArgumentKind::Switch) => v < table.switches(),
         Ok(ArgumentKind::Class) => (0 < v) & (v < 16),
         Ok(ArgumentKind::Text) => check_parts::ref_fits(table, v),
-        Ok(ArgumentKind::Number) => v < 31 + table.numbers(),
+        Ok(ArgumentKind::Number) => v < TablePlaces::SMALL_NUMBERS + table.numbers(),
         Ok(ArgumentKind::Nothing) | Err(_) => x == 0,
     }
 }
@@ -46,17 +45,14 @@ fn arg_fits(table: Table, x: usize) -> bool
 fn letter_form(place: usize) -> Forms
     ensures { result.bits ≡ cond (ltb place 12) (2 ^ place) 0 }
 {
-    match Letter::try_from(place) {
-        Ok(letter) => Forms::letter(letter),
-        Err(_) => Forms::EMPTY,
-    }
+    Letter::try_from(place).map_or(Forms::EMPTY, Forms::letter)
 }
 
 fn switch_form(table: Table, v: usize) -> Forms
     requires { v < 536870912 }
     ensures { result.bits ≡ cond (eqb (cell (table_of table.entry.cells.now) (first_switch + v) % 2) 1) 65536 131072 }
 {
-    if check_parts::read(table, TablePlaces::FIRST_SWITCH + v) % 2 == 1 {
+    if SwitchCell::of(check_parts::read(table, TablePlaces::FIRST_SWITCH + v)).named {
         return Forms::NAZWA;
     }
     Forms::INDEKS
@@ -68,9 +64,9 @@ fn form_of(table: Table, x: usize) -> Forms
     requires { x < 4294967296 }
     ensures { result.bits ≡ form_bit (table_of table.entry.cells.now) x }
 {
-    let v = x / 8;
-    match ArgumentKind::try_from(x % 8) {
-        Ok(ArgumentKind::Letter) => letter_form(v / 64),
+    let v = ArgumentKind::value_in(x);
+    match ArgumentKind::in_cell(x) {
+        Ok(ArgumentKind::Letter) => letter_form(Pair::of(v).second),
         Ok(ArgumentKind::Label) => Forms::LABEL,
         Ok(ArgumentKind::Switch) => switch_form(table, v),
         Ok(ArgumentKind::Class) => Forms::CLASS,
@@ -80,7 +76,7 @@ fn form_of(table: Table, x: usize) -> Forms
     }
 }
 
-// Whether a set of forms has one that an instruction's list has at a place.
+// Whether a set of forms has one that an instruction's list has at a place. The operator is a number here and in `Given`: a cell may have that of none.
 #[tactic(auto, unfolding(check_parts::specs::Parts::takes))]
 fn takes(set: Forms, op: u8, list: u8, place: u8) -> bool
     ensures { result ≡ takes set.bits op list place }
@@ -121,7 +117,10 @@ impl Given {
 fn head_fits(x: usize) -> bool
     ensures { result ≡ head_fits x }
 {
-    Operator::try_from((x % 64) as u8).is_ok() & (0 < x / 64) & (x / 64 <= Machine::TEXT)
+    let head = Pair::of(x);
+    Operator::try_from(head.first as u8).is_ok()
+        & (0 < head.second)
+        & (head.second <= Machine::TEXT)
 }
 
 #[tactic(auto, unfolding(check_parts::specs::Parts::instr_fits))]
@@ -129,12 +128,24 @@ fn instr_fits(table: Table, i: usize) -> bool
     requires { i < 65536 }
     ensures { result ≡ instr_fits (table_of table.entry.cells.now) i }
 {
-    let x = check_parts::read(table, TablePlaces::FIRST_INSTRUCTION + 4 * i);
-    let a = check_parts::read(table, TablePlaces::FIRST_ARGUMENT + 4 * i);
-    let b = check_parts::read(table, TablePlaces::SECOND_ARGUMENT + 4 * i);
-    let d = check_parts::read(table, TablePlaces::THIRD_ARGUMENT + 4 * i);
+    let x = check_parts::read(
+        table,
+        TablePlaces::FIRST_INSTRUCTION + TablePlaces::INSTRUCTION_SIZE * i,
+    );
+    let a = check_parts::read(
+        table,
+        TablePlaces::FIRST_ARGUMENT + TablePlaces::INSTRUCTION_SIZE * i,
+    );
+    let b = check_parts::read(
+        table,
+        TablePlaces::SECOND_ARGUMENT + TablePlaces::INSTRUCTION_SIZE * i,
+    );
+    let d = check_parts::read(
+        table,
+        TablePlaces::THIRD_ARGUMENT + TablePlaces::INSTRUCTION_SIZE * i,
+    );
     let given = Given {
-        op: (x % 64) as u8,
+        op: Pair::of(x).first as u8,
         first: form_of(table, a),
         second: form_of(table, b),
         third: form_of(table, d),
@@ -155,5 +166,10 @@ pub fn last_ends(table: Table, n: usize) -> bool
     requires { n < 65536 }
     ensures { result ≡ ends (cell (table_of table.entry.cells.now) (4 + 4 * n) % 64) }
 {
-    forms::is_end((check_parts::read(table, TablePlaces::FIRST_INSTRUCTION - 4 + 4 * n) % 64) as u8)
+    let x = check_parts::read(
+        table,
+        TablePlaces::FIRST_INSTRUCTION - TablePlaces::INSTRUCTION_SIZE
+            + TablePlaces::INSTRUCTION_SIZE * n,
+    );
+    forms::is_end(Pair::of(x).first as u8)
 }

@@ -9,9 +9,12 @@ use Prim.Native.Nat.{ℕ, zero, suc, ◌+◌, ◌*◌, ◌-◌, ◌≤◌, ◌<�
 use native.Mathlib.Nat.{not-suc-le-zero, le_of_suc-le-suc}
 use native.Mathlib.Omega.{arith}
 use lib.Dec.{leb, eqb}
-use lib.ListN.{length, get_or, take, drop, length-drop}
-use lib.Seq.{get_or-take, get_or-drop, take_all}
-use borrow.Author.Tests.{le-leb, lt-leb}
+use lib.ListN.{length, get_or, take, drop, length-take, length-drop}
+use lib.Seq.{get_or-take, get_or-drop, take_all, length-take-le}
+use borrow.Author.Tests.{le-leb, lt-leb, lt-ltb, le-ltb}
+use Rattle.std.proofs.Math.Decide.{dec_lt}
+use Rattle.std.proofs.Math.Seq.{take-append-add}
+use Rattle.std.proofs.lemmas.List.{take-append-le}
 use Rattle.cells.specs.Cells.{Number}
 use Rattle.check_addresses.specs.Collected.{Collectable, Collected}
 use Rattle.language.specs.Limits as limit
@@ -28,12 +31,13 @@ use Rattle.machine.specs.Arguments.{everything}
 use Rattle.machine.specs.WellFormed.{different}
 use Rattle.matching.specs.declared.Taken.{Taken}
 use Rattle.matching.specs.Tests.{Took}
-use Rattle.records.proofs.Walking.{AllTaken, all-taken}
+use Rattle.records.proofs.Walking.{all-taken}
 use Rattle.records.specs.declared.Sequence.{Sequence}
 use Rattle.components.specs.declared.Amount.{Amount}
 use Rattle.records.specs.Sequences.{part_total, char_total, TookRecords, Totalled}
 use Rattle.check_memory.specs.Passes.{sizes, sum, zeros, laid, all_strings, expressions, halves, expression_parts, expression_chars, distinct}
-use Rattle.check_memory.specs.Reads.{Ended, StringLent, ExpressionSums, FileSums, Comparable}
+use Rattle.check_memory.specs.Reads.{Ended, StringLent, by_string, StringSums, AllSums, Comparable}
+use Rattle.check_memory.specs.declared.Sums.{Sums}
 use Rattle.check_memory.proofs.Readings.{length-expressions, length-halves}
 
 -- ---- the cells
@@ -95,104 +99,132 @@ module _ {m : List ℕ} {i : ℕ} {r : List ℕ} where
 
 -- ---- sums
 
--- a is the sum of f over the first i strings
-pub record Adding (f : List ℕ → ℕ) (xs : List (List ℕ)) (i a : ℕ) : Type 0 where
-  pub is : a ≡ total f (take i xs)
+module _ (f g : List ℕ → ℕ) (m : List ℕ) (i : ℕ) where
+  by-expression : i < 32 → by_string f g m i ≡ f (get_or (all_strings m) i [])
+  by-expression h = rw (lt-ltb i 32 h) refl
+
+  by-file : 32 ≤ i → by_string f g m i ≡ g (get_or (all_strings m) i [])
+  by-file h = rw (le-ltb i 32 h) refl
+
+-- a is the sum over the first i strings, of f over expressions and of g over those of files
+pub record Adding (f g : List ℕ → ℕ) (m : List ℕ) (i a : ℕ) : Type 0 where
+  pub is : a ≡ total f (take i (expressions m)) + total g (take (i - 32) (halves m))
   pub most : a ≤ 65536 * i
 
-pub adding-none : (f : List ℕ → ℕ) (xs : List (List ℕ)) → Adding f xs 0 0
-adding-none f xs = record { is = refl; most = omega arith }
+adding-none : (f g : List ℕ → ℕ) (m : List ℕ) → Adding f g m 0 0
+adding-none f g m = record { is = refl; most = omega arith }
 
-module _ {f : List ℕ → ℕ} {xs : List (List ℕ)} {i a : ℕ} (g : Adding f xs i a) where
-  pub adding-next : i < length xs → {r : List ℕ} → r ≡ get_or xs i [] → length r < 65536 → {n : ℕ} → n ≡ f r → n ≤ length r → Adding f xs (i + 1) (a + n)
-  adding-next h {r} e k {n} q b = record { is = omega (arith, g.is, total-next f [] xs i h, q, ap f e); most = omega (arith, g.most) }
+module _ {f g : List ℕ → ℕ} {m : List ℕ} {i a : ℕ} (w : Adding f g m i a) where
+  adding-next : i < 96 → {n : ℕ} → n ≡ by_string f g m i → n < 65536 → Adding f g m (i + 1) (a + n)
+  adding-next h {n} e b = go (dec_lt i 32)
+    where
+      go : Dec (i < 32) → Adding f g m (i + 1) (a + n)
+      go (yes k) =
+          let v : n ≡ f (get_or (expressions m) i []) = e ∙ by-expression f g m i k ∙ ap f (sym (expression-at m i k)) in
+          let z : i + 1 - 32 ≡ i - 32 = omega arith in
+          record {
+            is = omega (arith, w.is, total-next f [] (expressions m) i (omega (arith, length-expressions m)), v, ap (λ j. total g (take j (halves m))) z);
+            most = omega (arith, w.most);
+          }
+      go (no k) =
+          let y : 32 + (i - 32) ≡ i = omega arith in
+          let z : i + 1 - 32 ≡ i - 32 + 1 = omega arith in
+          let half : get_or (halves m) (i - 32) [] ≡ get_or (all_strings m) i [] = half_at m (i - 32) (omega arith) ∙ ap (λ j. get_or (all_strings m) j []) y in
+          let v : n ≡ g (get_or (halves m) (i - 32) []) = e ∙ by-file f g m i (omega arith) ∙ ap g (sym half) in
+          let t : take (i + 1) (expressions m) ≡ take i (expressions m) =
+          take_all (i + 1) (expressions m) (omega (arith, length-expressions m)) ∙ sym (take_all i (expressions m) (omega (arith, length-expressions m))) in
+          record {
+            is = omega (
+              arith,
+              w.is,
+              total-next g [] (halves m) (i - 32) (omega (arith, length-halves m)),
+              v,
+              ap (λ j. total g (take j (halves m))) z,
+              ap (total f) t,
+            );
+            most = omega (arith, w.most);
+          }
 
-  pub adding-end : length xs ≤ i → a ≡ total f xs
-  adding-end h = g.is ∙ ap (total f) (take_all i xs h)
+  adding-end : 96 ≤ i → a ≡ total f (expressions m) + total g (halves m)
+  adding-end h =
+      let t = take_all i (expressions m) (omega (arith, length-expressions m)) in
+      let u = take_all (i - 32) (halves m) (omega (arith, length-halves m)) in
+      w.is ∙ (λ j. total f (t j) + total g (u j))
 
--- what the first i expressions hold
-pub record ExpressionsAdded (m : List ℕ) (i a b : ℕ) : Type 0 where
-  pub upto : i ≤ 32
-  pub parts : Adding expression_parts (expressions m) i a
-  pub chars : Adding expression_chars (expressions m) i b
+-- what the first i strings hold
+pub record StringsAdded (m : List ℕ) (i a b c : ℕ) : Type 0 where
+  pub upto : i ≤ 96
+  pub parts : Adding expression_parts (λ v. part_total (records_in v)) m i a
+  pub chars : Adding expression_chars (λ v. char_total (records_in v)) m i b
+  pub count : Adding (λ v. 0) (λ v. length (records_in v)) m i c
 
-pub expressions-none : (m : List ℕ) → ExpressionsAdded m 0 0 0
-expressions-none m = record { upto = omega arith; parts = adding-none expression_parts (expressions m); chars = adding-none expression_chars (expressions m) }
+pub strings-none : (m : List ℕ) → StringsAdded m 0 0 0 0
+strings-none m = record {
+  upto = omega arith;
+  parts = adding-none expression_parts (λ v. part_total (records_in v)) m;
+  chars = adding-none expression_chars (λ v. char_total (records_in v)) m;
+  count = adding-none (λ v. 0) (λ v. length (records_in v)) m;
+}
 
+none-total : (xs : List (List ℕ)) → total (λ v. 0) xs ≡ 0
+none-total [] = refl
+none-total (x ∷ xs) = omega (arith, none-total xs)
+
+module _ {m : List ℕ} {i a b c : ℕ} (w : StringsAdded m i a b c) where
+  pub strings-next : i < 96 → {r : Sums} → StringSums m i r → StringsAdded m (i + 1) (a + r.parts) (b + r.chars) (c + r.records)
+  strings-next h s = record {
+    upto = omega arith;
+    parts = adding-next w.parts h s.parts_is s.parts_most;
+    chars = adding-next w.chars h s.chars_is s.chars_most;
+    count = adding-next w.count h s.records_is s.records_most;
+  }
+
+  pub all-sums : 96 ≤ i → AllSums m (record { parts = a; chars = b; records = c })
+  all-sums h = record {
+    parts_is = adding-end w.parts h;
+    chars_is = adding-end w.chars h;
+    records_is = omega (arith, adding-end w.count h, none-total (expressions m));
+    parts_most = omega (arith, w.parts.most, w.upto);
+    chars_most = omega (arith, w.chars.most, w.upto);
+    records_most = omega (arith, w.count.most, w.upto);
+  }
+
+-- what one string holds
 module _ {m : List ℕ} (w : Each WholeComponents (expressions m)) {i : ℕ} (h : i < 32) {r : List ℕ} (q : StringLent m i r) where
   pub whole-expression : WholeComponents r
   whole-expression = subst WholeComponents (sym (lent-expression h q)) (each_in WholeComponents (expressions m) w i [] (omega (arith, length-expressions m)))
 
-  pub taken-all : {t : Taken} → Took everything (components_in r) t → AllTaken (length r) (components_in r) t
-  taken-all k = all-taken {s = r} {xs = components_in r} {c = r} (record { cells = whole-expression; most = omega arith; small = q.small }) k
-
-  pub expressions-next : {a b : ℕ} → ExpressionsAdded m i a b → {t : Taken} → Took everything (components_in r) t → ExpressionsAdded m (i + 1) (a + t.amount.parts) (b + t.amount.chars)
-  expressions-next g k =
-      let x = taken-all k in
-      let e = lent-expression h q in
-      let n = length-expressions m in
+  pub expression-sums : {t : Taken} → Took everything (components_in r) t → StringSums m i (record { parts = t.amount.parts; chars = t.amount.chars; records = 0 })
+  expression-sums k =
+      let x = all-taken {s = r} {xs = components_in r} {c = r} (record { cells = whole-expression; most = omega arith; small = q.small }) k in
       record {
-        upto = omega arith;
-        parts = adding-next g.parts (omega (arith, n)) e q.small x.parts_is (omega (arith, x.parts_most, x.bytes_most));
-        chars = adding-next g.chars (omega (arith, n)) e q.small x.chars_is (omega (arith, x.chars_most, x.bytes_most));
+        parts_is = x.parts_is ∙ ap expression_parts q.is ∙ sym (by-expression expression_parts (λ v. part_total (records_in v)) m i h);
+        chars_is = x.chars_is ∙ ap expression_chars q.is ∙ sym (by-expression expression_chars (λ v. char_total (records_in v)) m i h);
+        records_is = sym (by-expression (λ v. 0) (λ v. length (records_in v)) m i h);
+        parts_most = omega (arith, x.parts_most, x.bytes_most, q.small);
+        chars_most = omega (arith, x.chars_most, x.bytes_most, q.small);
+        records_most = omega arith;
       }
-
-pub expressions-sums : {m : List ℕ} {i a b : ℕ} → ExpressionsAdded m i a b → 32 ≤ i → ExpressionSums m (record { parts = a; chars = b; records = 0 })
-expressions-sums {m} g h =
-    let n = length-expressions m in
-    record {
-      parts_is = adding-end g.parts (omega (arith, n));
-      chars_is = adding-end g.chars (omega (arith, n));
-      records_is = refl;
-      parts_most = omega (arith, g.parts.most, g.upto);
-      chars_most = omega (arith, g.chars.most, g.upto);
-    }
-
--- what the first i halves of files hold
-pub record HalvesAdded (m : List ℕ) (i a b c : ℕ) : Type 0 where
-  pub upto : i ≤ 64
-  pub parts : Adding (λ v. part_total (records_in v)) (halves m) i a
-  pub chars : Adding (λ v. char_total (records_in v)) (halves m) i b
-  pub count : Adding (λ v. length (records_in v)) (halves m) i c
-
-pub halves-none : (m : List ℕ) → HalvesAdded m 0 0 0 0
-halves-none m = record {
-  upto = omega arith;
-  parts = adding-none (λ v. part_total (records_in v)) (halves m);
-  chars = adding-none (λ v. char_total (records_in v)) (halves m);
-  count = adding-none (λ v. length (records_in v)) (halves m);
-}
-
-pub count_is : {r : List ℕ} {t : Sequence} → TookRecords everything r t → (t.end.records ≡ length (records_in r)) × (t.end.records ≤ length r)
-count_is k = (sym (ap (λ z. z.0) k.is), omega (arith, k.cut.small, k.cut.within))
 
 module _ {m : List ℕ} (w : Each WholeRecords (halves m)) {i : ℕ} (h : i < 64) {r : List ℕ} (q : StringLent m (32 + i) r) where
   pub whole-half : WholeRecords r
   whole-half = subst WholeRecords (sym (lent-half h q)) (each_in WholeRecords (halves m) w i [] (omega (arith, length-halves m)))
 
-  pub halves-next : {a b c : ℕ} → HalvesAdded m i a b c → {t : Amount} → Totalled r t → {u : Sequence} → TookRecords everything r u
-      → HalvesAdded m (i + 1) (a + t.parts) (b + t.chars) (c + u.end.records)
-  halves-next g x y =
-      let e = lent-half h q in
-      let n = length-halves m in
-      record {
-        upto = omega arith;
-        parts = adding-next g.parts (omega (arith, n)) e q.small x.parts_is x.parts_most;
-        chars = adding-next g.chars (omega (arith, n)) e q.small x.chars_is x.chars_most;
-        count = adding-next g.count (omega (arith, n)) e q.small (count_is y).0 (count_is y).1;
-      }
+module _ {m : List ℕ} {i : ℕ} (l : 32 ≤ i) (h : i < 96) {r : List ℕ} (q : StringLent m i r) where
+  pub whole-file : Each WholeRecords (halves m) → WholeRecords r
+  whole-file w = let z : i ≡ 32 + (i - 32) = omega arith in whole-half w {i = i - 32} (omega arith) (subst (λ j. StringLent m j r) z q)
 
-pub halves-sums : {m : List ℕ} {i a b c : ℕ} → HalvesAdded m i a b c → 64 ≤ i → FileSums m (record { parts = a; chars = b; records = c })
-halves-sums {m} g h =
-    let n = length-halves m in
-    record {
-      parts_is = adding-end g.parts (omega (arith, n));
-      chars_is = adding-end g.chars (omega (arith, n));
-      records_is = adding-end g.count (omega (arith, n));
-      parts_most = omega (arith, g.parts.most, g.upto);
-      chars_most = omega (arith, g.chars.most, g.upto);
-      records_most = omega (arith, g.count.most, g.upto);
-    }
+  pub file-sums : {t : Amount} → Totalled r t → {u : Sequence} → TookRecords everything r u → StringSums m i (record { parts = t.parts; chars = t.chars; records = u.end.records })
+  file-sums x y =
+      let count : length (records_in r) ≡ _ = ap (λ z. z.0) y.is in
+      record {
+        parts_is = x.parts_is ∙ ap (λ v. part_total (records_in v)) q.is ∙ sym (by-file expression_parts (λ v. part_total (records_in v)) m i l);
+        chars_is = x.chars_is ∙ ap (λ v. char_total (records_in v)) q.is ∙ sym (by-file expression_chars (λ v. char_total (records_in v)) m i l);
+        records_is = sym count ∙ ap (λ v. length (records_in v)) q.is ∙ sym (by-file (λ v. 0) (λ v. length (records_in v)) m i l);
+        parts_most = omega (arith, x.parts_most, q.small);
+        chars_most = omega (arith, x.chars_most, q.small);
+        records_most = omega (arith, y.cut.small, y.cut.within, q.small);
+      }
 
 -- ---- addresses
 
@@ -221,19 +253,32 @@ module _ {m d : List ℕ} (c : Comparable m (length d)) {e : List ℕ} {n i : �
     more : total (λ v. length (records_in v)) (take (i + 1) (halves m)) ≡ n + length (records_in r)
     more = omega (arith, total-next (λ v. length (records_in v)) [] (halves m) i (omega (arith, length-halves m)), g.count, ap (λ v. length (records_in v)) (lent-half h q))
 
-    pub gathering-room : Collectable r (length e) n
-    gathering-room = record {
-      whole = whole-half c.files h q;
-      room = omega (arith, more, total-split (λ v. length (records_in v)) (i + 1) (halves m), c.room, g.long);
-    }
+    room : n + length (records_in r) ≤ length e
+    room = omega (arith, more, total-split (λ v. length (records_in v)) (i + 1) (halves m), c.room, g.long)
 
-    pub gathering-next : {e' : List ℕ} {k : ℕ} → Collected r e n e' k → length e' ≡ length e → Gathering m d e' k (i + 1)
-    gathering-next f l = record {
-      upto = omega arith;
-      long = l ∙ g.long;
-      is = f.is ∙ ap (λ u. u ++ addresses_in r) g.is ∙ ap (λ v. each addresses_in (take i (halves m)) ++ addresses_in v) (lent-half h q) ∙ sym (each_next addresses_in (halves m) i (omega (arith, length-halves m)));
-      count = f.count ∙ sym more;
-    }
+    pub gathering-room : Collectable r (length (take (length e - n) (drop n e)))
+    gathering-room = record { whole = whole-half c.files h q; room = simp (length-take, length-drop) (omega (arith, room)) }
+
+    module _ {u : List ℕ} {k : ℕ} (f : Collected r u k) where
+      pub fits : n + k ≤ length e
+      fits = omega (arith, room, f.count)
+
+      -- the list, whose places from n on were lent
+      abbrev wrote : List ℕ → List ℕ
+      wrote rest = take n e ++ (u ++ rest)
+
+      front : (rest : List ℕ) → k ≤ length u → take (n + k) (wrote rest) ≡ take n e ++ take k u
+      front rest l =
+          let long : length (take n e) ≡ n = length-take-le n e within in
+          ap (λ (j : ℕ). take (j + k) (wrote rest)) (sym long) ∙ take-append-add (take n e) (u ++ rest) k ∙ ap (λ (v : List ℕ). take n e ++ v) (take-append-le k u rest l)
+
+      pub gathering-next : (rest : List ℕ) → k ≤ length u → length (wrote rest) ≡ length e → Gathering m d (wrote rest) (n + k) (i + 1)
+      gathering-next rest l same = record {
+        upto = omega arith;
+        long = same ∙ g.long;
+        is = front rest l ∙ ap (λ (v : List ℕ). take n e ++ v) f.is ∙ ap (λ u. u ++ addresses_in r) g.is ∙ ap (λ v. each addresses_in (take i (halves m)) ++ addresses_in v) (lent-half h q) ∙ sym (each_next addresses_in (halves m) i (omega (arith, length-halves m)));
+        count = ap (λ (j : ℕ). n + j) f.count ∙ sym more;
+      }
 
   pub gathered : 64 ≤ i → {t : Bool} → t ≡ different eqb (take n e) → t ≡ distinct m
   unfolding distinct

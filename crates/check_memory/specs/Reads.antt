@@ -1,10 +1,9 @@
 -- What the functions that read the strings of a memory ask and tell. st has the places where the strings start.
-use Rattle.std.specs.Prelude.{◌≡◌, List, [], ℕ, ◌+◌, ◌≤◌, ◌<◌, length, get_or, take}
+use Rattle.std.specs.Prelude.{◌≡◌, List, [], ℕ, ◌+◌, ◌≤◌, ◌<◌, cond, ltb, length, get_or, take}
 use Rattle.language.specs.Limits as limit
 use Rattle.layout.specs.Bounds.{Each, WholeComponents, WholeRecords}
 use Rattle.layout.specs.Components.{records_in}
 use Rattle.layout.specs.Places as layout
-use Rattle.lists.specs.Lists.{total}
 use Rattle.records.specs.Sequences.{part_total, char_total}
 use Rattle.check_memory.specs.Passes.{sizes, sum, all_strings, expressions, halves, expression_parts, expression_chars, all_parts, all_chars, record_count}
 use Rattle.check_memory.specs.declared.Sums.{Sums}
@@ -46,23 +45,20 @@ pub record BothWhole (m : List ℕ) : Type 0 where
   pub exprs : Each WholeComponents (expressions m)
   pub files : Each WholeRecords (halves m)
 
+-- f of string k where it is an expression's, and g where it is one of a file's
+abbrev pub by_string : (List ℕ → ℕ) → (List ℕ → ℕ) → List ℕ → ℕ → ℕ
+by_string f g m k = cond (ltb k layout.first_file) (f (get_or (all_strings m) k [])) (g (get_or (all_strings m) k []))
+
+-- what string k holds
+pub record StringSums (m : List ℕ) (k : ℕ) (r : Sums) : Type 0 where
+  pub parts_is : r.parts ≡ by_string expression_parts (λ v. part_total (records_in v)) m k
+  pub chars_is : r.chars ≡ by_string expression_chars (λ v. char_total (records_in v)) m k
+  pub records_is : r.records ≡ by_string (λ v. 0) (λ v. length (records_in v)) m k
+  pub parts_most : r.parts < 65536
+  pub chars_most : r.chars < 65536
+  pub records_most : r.records < 65536
+
 -- what expressions and files hold
-pub record ExpressionSums (m : List ℕ) (r : Sums) : Type 0 where
-  pub parts_is : r.parts ≡ total expression_parts (expressions m)
-  pub chars_is : r.chars ≡ total expression_chars (expressions m)
-  pub records_is : r.records ≡ 0
-  pub parts_most : r.parts ≤ 2097152
-  pub chars_most : r.chars ≤ 2097152
-
-pub record FileSums (m : List ℕ) (r : Sums) : Type 0 where
-  pub parts_is : r.parts ≡ total (λ v. part_total (records_in v)) (halves m)
-  pub chars_is : r.chars ≡ total (λ v. char_total (records_in v)) (halves m)
-  pub records_is : r.records ≡ record_count m
-  pub parts_most : r.parts ≤ 4194304
-  pub chars_most : r.chars ≤ 4194304
-  pub records_most : r.records ≤ 4194304
-
--- what both hold
 pub record AllSums (m : List ℕ) (r : Sums) : Type 0 where
   pub parts_is : r.parts ≡ all_parts m
   pub chars_is : r.chars ≡ all_chars m

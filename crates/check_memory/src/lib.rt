@@ -6,10 +6,9 @@ ghost use Rattle.layout.specs.Cells.{three_at};
 ghost use Rattle.lists.specs.Lists.{all};
 ghost use Rattle.check_strings.specs.Sound.{sound_components, sound_records};
 ghost use Rattle.check_memory.specs.Passes.{zeros, laid, expressions, halves, sound, is_total, counted, distinct};
-ghost use Rattle.check_memory.specs.Reads.{Measurable, Started, Ended, Roomy, StringLent, BothWhole, ExpressionSums, FileSums, AllSums, Comparable};
+ghost use Rattle.check_memory.specs.Reads.{Measurable, Started, Ended, Roomy, StringLent, BothWhole, StringSums, AllSums, Comparable};
 ghost use Rattle.language.specs.Limits as limit;
-ghost use Rattle.layout.specs.Bounds.{Each, WholeComponents, WholeRecords};
-ghost use Rattle.layout.specs.Places.{strings_count, last_cell};
+ghost use Rattle.layout.specs.Places.{strings_count, stack_string, last_cell};
 
 use language::Machine;
 use layout::StatePlaces;
@@ -29,7 +28,7 @@ fn are_zeros(cells: &[u8]) -> bool
 {
     let mut good = true;
     for x in cells {
-        good = good & (*x == 0);
+        good &= *x == 0;
     }
     good
 }
@@ -154,60 +153,48 @@ impl<'a> Memory<'a> {
         self.are_expressions(last) & self.are_files(last)
     }
 
-    fn expression_sums(&self) -> Sums
-        requires { Each WholeComponents (expressions self.now) }
-        ensures { ExpressionSums self.now result }
+    // What string `k` holds, that of an expression or of a file.
+    fn sums_of(&self, k: usize) -> Sums
+        requires whole { BothWhole self.now }
+        requires below { k < stack_string }
+        ensures { StringSums self.now k result }
     {
-        let mut parts = 0;
-        let mut chars = 0;
-        for i in 0..Machine::EXPRESSIONS {
-            let v = self.string(i);
+        let v = self.string(k);
+        if k < StatePlaces::FIRST_FILE {
             let t = matching::count(v, matching::Test::All);
-            parts += t.amount.parts;
-            chars += t.amount.chars;
+            return Sums {
+                parts: t.amount.parts,
+                chars: t.amount.chars,
+                records: 0,
+            };
         }
+        let t = records::totals_of(v);
+        let q = records::count(v, records::RecordTest::First(matching::Test::All));
         Sums {
-            parts,
-            chars,
-            records: 0,
+            parts: t.parts,
+            chars: t.chars,
+            records: q.end.records,
         }
     }
 
-    // What it shares with `expression_sums` is the loop. A method with a closure for the sums of one string would have to say where that may be called, how
-    // large each sum is, and what they come to whatever they are: more than the loop itself.
-    fn file_sums(&self) -> Sums
-        requires { Each WholeRecords (halves self.now) }
-        ensures { FileSums self.now result }
+    // What the expressions and the files hold: the strings before that of the stack.
+    pub fn totals(&self) -> Sums
+        requires { BothWhole self.now }
+        ensures { AllSums self.now result }
     {
         let mut parts = 0;
         let mut chars = 0;
         let mut records = 0;
-        for i in 0..StatePlaces::FILE_STRINGS_COUNT {
-            let v = self.string(StatePlaces::FIRST_FILE + i);
-            let t = records::totals_of(v);
-            let q = records::count(v, records::RecordTest::First(matching::Test::All));
-            parts += t.parts;
-            chars += t.chars;
-            records += q.end.records;
+        for k in 0..StatePlaces::STACK_STRING {
+            let s = self.sums_of(k);
+            parts += s.parts;
+            chars += s.chars;
+            records += s.records;
         }
         Sums {
             parts,
             chars,
             records,
-        }
-    }
-
-    // What the expressions and the files come to.
-    pub fn totals(&self) -> Sums
-        requires { BothWhole self.now }
-        ensures { AllSums self.now result }
-    {
-        let e = self.expression_sums();
-        let f = self.file_sums();
-        Sums {
-            parts: e.parts + f.parts,
-            chars: e.chars + f.chars,
-            records: f.records,
         }
     }
 
@@ -240,7 +227,7 @@ impl<'a> Memory<'a> {
     {
         let mut n = 0;
         for i in 0..StatePlaces::FILE_STRINGS_COUNT {
-            n = check_addresses::collect(self.string(StatePlaces::FIRST_FILE + i), list, n);
+            n += check_addresses::collect(self.string(StatePlaces::FIRST_FILE + i), &mut list[n..]);
         }
         check_addresses::are_different(&list[..n])
     }

@@ -92,7 +92,7 @@ module _ (t : List ℕ) where
       (cond (eqb (x % 8) 3) (ltb (x / 8) (cell t layout.switch_count))
       (cond (eqb (x % 8) 4) (class_fits (x / 8))
       (cond (eqb (x % 8) 5) (ref_fits (x / 8))
-      (cond (eqb (x % 8) 6) (ltb (x / 8) (31 + cell t layout.number_count))
+      (cond (eqb (x % 8) 6) (ltb (x / 8) (layout.small_numbers + cell t layout.number_count))
       (eqb x 0))))))
 
   -- the set of its form

@@ -9,7 +9,7 @@ ghost use Rattle.packed.specs.Packed.{table_of};
 ghost use Rattle.check_parts.specs.Parts.{zeros, char, char_fits, chars_fit, text_fits, texts_same, number_fits, label_fits, ref_fits, entry_fits};
 
 use language::Machine;
-use layout::TablePlaces;
+use layout::{EntryCell, Pair, TablePlaces};
 use table::Table;
 
 // Cell `k` as a number, and 0 past the table.
@@ -64,10 +64,15 @@ pub fn text_fits(table: Table, k: usize) -> bool
     requires { k < 512 }
     ensures { result ≡ text_fits (table_of table.entry.cells.now) k }
 {
-    let n = read(table, TablePlaces::FIRST_TEXT + 16 * k);
+    let n = read(table, TablePlaces::FIRST_TEXT + TablePlaces::TEXT_SIZE * k);
     (1 < n)
         & (n <= Machine::ITEM)
-        & chars_fit(table, TablePlaces::FIRST_CHARACTERS + 16 * k, n, false)
+        & chars_fit(
+            table,
+            TablePlaces::FIRST_CHARACTERS + TablePlaces::TEXT_SIZE * k,
+            n,
+            false,
+        )
 }
 
 // Whether the texts `i` and `j` have the same cells.
@@ -75,9 +80,9 @@ pub fn texts_same(table: Table, i: usize, j: usize) -> bool
     requires { i + j < 512 }
     ensures { result ≡ texts_same (table_of table.entry.cells.now) i j }
 {
-    let first = TablePlaces::FIRST_TEXT + 16 * i;
-    let second = TablePlaces::FIRST_TEXT + 16 * j;
-    (0..16).all(|q| read(table, first + q) == read(table, second + q))
+    let first = TablePlaces::FIRST_TEXT + TablePlaces::TEXT_SIZE * i;
+    let second = TablePlaces::FIRST_TEXT + TablePlaces::TEXT_SIZE * j;
+    (0..TablePlaces::TEXT_SIZE).all(|q| read(table, first + q) == read(table, second + q))
 }
 
 // Whether number `k` is in range and beyond 15 in size.
@@ -96,14 +101,17 @@ pub fn label_fits(table: Table, k: usize) -> bool
     requires { k < 512 }
     ensures { result ≡ label_fits (table_of table.entry.cells.now) k }
 {
-    let x = read(table, TablePlaces::FIRST_LABEL + 16 * k);
-    let n = x % 64;
-    let at = TablePlaces::FIRST_NAME + 16 * k;
+    let head = Pair::of(read(
+        table,
+        TablePlaces::FIRST_LABEL + TablePlaces::LABEL_SIZE * k,
+    ));
+    let n = head.first;
+    let at = TablePlaces::FIRST_NAME + TablePlaces::LABEL_SIZE * k;
     (0 < n)
         & (n <= Machine::ITEM)
         & characters::is_capital(char_at(table, at, 0))
         & chars_fit(table, at, n, true)
-        & (x / 64 < table.instructions())
+        & (head.second < table.instructions())
 }
 
 // Whether `v` refers to one of the characters or to a text of the table.
@@ -111,10 +119,10 @@ pub fn label_fits(table: Table, k: usize) -> bool
 pub fn ref_fits(table: Table, v: usize) -> bool
     ensures { result ≡ ref_fits (table_of table.entry.cells.now) v }
 {
-    if v < 256 {
+    if v < TablePlaces::SHORT_TEXTS {
         return characters::is_known(v as u8);
     }
-    v < 256 + table.texts()
+    v < TablePlaces::SHORT_TEXTS + table.texts()
 }
 
 // Whether entry `k` of a switch has a label, and a text only where the switch is by name. `named` is a Bool, as the specification's `goes_by_name`.
@@ -123,6 +131,6 @@ pub fn entry_fits(table: Table, named: bool, k: usize) -> bool
     requires { k < 65536 }
     ensures { result ≡ entry_fits (table_of table.entry.cells.now) named k }
 {
-    let x = read(table, TablePlaces::FIRST_ENTRY + k);
-    (x % 128 < table.labels()) & ((x / 128 == 0) | (named & ref_fits(table, x / 128)))
+    let entry = EntryCell::of(read(table, TablePlaces::FIRST_ENTRY + k));
+    (entry.label < table.labels()) & ((entry.text == 0) | (named & ref_fits(table, entry.text)))
 }

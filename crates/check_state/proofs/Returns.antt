@@ -36,25 +36,25 @@ module _ (c : List ℕ) (good : T (good_table c)) where
   unfolding good_return
   return-none n e = sym (ap (λ k. ltb 0 k && is_call (operation (instr_at p (pred k)).op).flow) e)
 
-  module _ (n : ℕ) (some : n ≡ 0 → ⊥) {k : ℕ} (q : Number (cell (table_of c) 0) 4294967296 k) where
-    is-return : good_return p n ≡ is_call (operation (instr_at p (n - 1)).op).flow
+  module _ (n : ℕ) {i : ℕ} (some : 1 ≤ n) (before : i ≡ n - 1) {k : ℕ} (q : Number (cell (table_of c) 0) 4294967296 k) where
+    is-return : good_return p n ≡ is_call (operation (instr_at p i).op).flow
     unfolding good_return
     is-return =
         let t : ltb 0 n ≡ true = lt-ltb 0 n (omega arith) in
-        ap (λ b. b && is_call (operation (instr_at p (pred n)).op).flow) t ∙ ap (λ o. is_call (operation (instr_at p o).op).flow) (sym (sub-one n))
+        ap (λ b. b && is_call (operation (instr_at p (pred n)).op).flow) t ∙ ap (λ o. is_call (operation (instr_at p o).op).flow) (sym (sub-one n) ∙ sym before)
 
-    pub return-beyond : k ≤ n - 1 → false ≡ good_return p n
+    pub return-beyond : k ≤ i → false ≡ good_return p n
     return-beyond h =
-        let e : instr_at p (n - 1) ≡ no_instr = get_or-eq_default p.code no_instr {n = n - 1} (omega (arith, code_is q)) in
+        let e : instr_at p i ≡ no_instr = get_or-eq_default p.code no_instr {n = i} (omega (arith, code_is q)) in
         sym (is-return ∙ ap (λ (x : Instr). is_call (operation x.op).flow) e)
 
-    pub place : n - 1 < k → n - 1 < 512
+    pub place : i < k → i < 512
     place h = omega (arith, code_is q, (open-program p (table-facts c good).good).code_short)
 
-    pub return-is : n - 1 < k → {o : ℕ} → Number (cell (table_of c) (layout.first_instruction + 4 * (n - 1)) % 64) 64 o → {r : Bool} → r ≡ calls o → r ≡ good_return p n
+    pub return-is : i < k → {o : ℕ} → Number (cell (table_of c) (layout.first_instruction + 4 * i) % 64) 64 o → {r : Bool} → r ≡ calls o → r ≡ good_return p n
     return-is h {o} w {r} x =
-        let g = good-instruction c good (n - 1) (omega (arith, code_is q)) o w.is in
-        x ∙ ap calls (sym g.number) ∙ calls-listed (instr_at p (n - 1)).op ∙ sym is-return
+        let g = good-instruction c good i (omega (arith, code_is q)) o w.is in
+        x ∙ ap calls (sym g.number) ∙ calls-listed (instr_at p i).op ∙ sym is-return
 
 -- ---- two cells an entry
 

@@ -15,15 +15,15 @@ use layout::StatePlaces;
 use tasks::Task;
 use tasks::from_table::Table;
 
-// Whether an entry of the stack stands just after a call.
+// Whether an entry of the stack stands just after a call. The table is well formed, here and in the next three: a struct that knows it would be made for
+// them alone.
 fn is_return(table: Table, n: usize) -> bool
     requires { T (good_table table.cells.now) }
     ensures { result ≡ good_return (program_of table.entry.cells.now) n }
 {
-    if n == 0 {
+    let Some(i) = n.checked_sub(1) else {
         return false;
-    }
-    let i = n - 1;
+    };
     if table.instructions() <= i {
         return false;
     }

@@ -4,11 +4,14 @@
 ghost use Rattle.std.specs.Prelude.{◌≡◌, ◌≤◌, ◌<◌, length};
 ghost use Rattle.check_strings.specs.Sound.{sound_components, sound_short, FrontSize, given, framed, sound_records, RecordSize};
 
+use components::{Kind, RecordPlaces};
+
 // Whether what stands behind a first cell of 0 is a number or an address without fault. The largest code is that of 8,388,607.
 fn is_short(kind: u8, v: usize, last: usize) -> bool
     ensures { result ≡ sound_short last kind v }
 {
-    ((kind == 1) & (v <= 2 * components::ZERO)) | ((kind == 2) & (v <= last))
+    ((kind == Kind::Number as u8) & (v <= 2 * components::ZERO))
+        | ((kind == Kind::Address as u8) & (v <= last))
 }
 
 // How many cells the component in front takes, where it is whole and without fault.
@@ -51,14 +54,14 @@ fn is_given(n: usize, last: usize) -> bool
 fn is_framed(b: &[u8]) -> bool
     ensures { result ≡ framed b.now }
 {
-    if b.len() < 7 {
+    if b.len() < RecordPlaces::FRAME {
         return false;
     }
-    let n = cells::two_at(b, 3);
-    if b.len() < 7 + n {
+    let n = cells::two_at(b, RecordPlaces::LENGTH);
+    if b.len() < RecordPlaces::FRAME + n {
         return false;
     }
-    cells::two_at(b, 5 + n) == n
+    cells::two_at(b, RecordPlaces::CONTENTS + n) == n
 }
 
 // How many cells the record in front takes, where it is whole and without fault.
@@ -69,11 +72,12 @@ fn record_size(b: &[u8], last: usize) -> Option<usize>
     if !is_framed(b) {
         return None;
     }
-    let n = cells::two_at(b, 3);
+    let n = cells::two_at(b, RecordPlaces::LENGTH);
     let address = cells::three_at(b, 0);
-    let e = 5 + n;
-    let fine = (0 < n) & is_given(address, last) & are_components(&b[5..e], last);
-    fine.then_some(e + 2)
+    let e = RecordPlaces::CONTENTS + n;
+    let contents = &b[RecordPlaces::CONTENTS..e];
+    let fine = (0 < n) & is_given(address, last) & are_components(contents, last);
+    fine.then_some(e + RecordPlaces::LENGTH_SIZE)
 }
 
 // Whether the cells are whole records without faults, with addresses from 1 to `last`. One walk for both would state more of its closure than it saves.

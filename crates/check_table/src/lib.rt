@@ -36,15 +36,15 @@ fn rest_zero(table: Table) -> bool
 {
     check_parts::zeros(
         table,
-        TablePlaces::FIRST_INSTRUCTION + 4 * table.instructions(),
+        TablePlaces::FIRST_INSTRUCTION + TablePlaces::INSTRUCTION_SIZE * table.instructions(),
         TablePlaces::FIRST_LABEL,
     ) & check_parts::zeros(
         table,
-        TablePlaces::FIRST_LABEL + 16 * table.labels(),
+        TablePlaces::FIRST_LABEL + TablePlaces::LABEL_SIZE * table.labels(),
         TablePlaces::FIRST_TEXT,
     ) & check_parts::zeros(
         table,
-        TablePlaces::FIRST_TEXT + 16 * table.texts(),
+        TablePlaces::FIRST_TEXT + TablePlaces::TEXT_SIZE * table.texts(),
         TablePlaces::FIRST_SWITCH,
     ) & check_parts::zeros(
         table,

@@ -2,7 +2,7 @@
 use mathlib.Core.Path.{◌≡◌, refl, ap, sym, ◌∙◌, subst}
 use mathlib.Core.Bool.{Bool, true, false}
 use mathlib.Core.List.{List, [], ◌∷◌, ◌++◌}
-use Prim.Native.Nat.{ℕ, ◌≤◌}
+use Prim.Native.Nat.{ℕ}
 use native.Mathlib.Nat.{add-zero}
 use native.Mathlib.Omega.{arith}
 use lib.Dec.{T}
@@ -39,9 +39,6 @@ shown-so {m} {b} {b'} {l} {at} s w e = record { is = w ∙ ap (pasted b at) s.is
 pub number-told : (x : Answer) (n : ℕ) → reply_number (run_reply x n) ≡ answer_number x
 number-told pause n = refl
 number-told (stopped s) n = refl
-
-pub table-long : {c : List ℕ} {memory at bytes : ℕ} → Seated c memory at bytes → limit.table ≤ length c
-table-long {c} pre = (table-facts c pre.table).long
 
 module _ {c : List ℕ} {memory at bytes : ℕ} (pre : Seated c memory at bytes) (w : List ℕ) (b : ℕ) where
   -- "A refused input has count 0, an empty Q1"

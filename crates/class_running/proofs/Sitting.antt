@@ -13,6 +13,7 @@ use Rattle.language.specs.Limits as limit
 use Rattle.machine.specs.Steps.{refusals}
 use Rattle.layout.specs.Strings.{cut_by}
 use Rattle.layout.specs.Table.{good_table}
+use Rattle.layout.proofs.TableLaws.{table-facts}
 use Rattle.calls.specs.Filling.{Taken}
 use Rattle.cells.specs.Cells.{pasted}
 use Rattle.class_calls.specs.Class.{lent_of, Pupil, refused_pupil, pupil, Lent, sum, class_fits, pupils, ClassReply, class_of, result_cells, results_of, results_after, outputs_of, outputs_after}
@@ -48,6 +49,9 @@ pub record Sitting (c s ns bs res₀ out₀ : List ℕ) (memory₀ : ℕ) (res o
 module _ {c s ns bs res₀ out₀ : List ℕ} {memory₀ : ℕ} (pre : Classable c s ns bs res₀ out₀ memory₀) where
   abbrev ps : List Pupil
   ps = pupils c (cut_by ns s) bs
+
+  pub table-long : limit.table ≤ length c
+  table-long = (table-facts c pre.table).long
 
   pub facts : ClassFits (lent_of s ns bs res₀ out₀)
   facts = fits-facts (lent_of s ns bs res₀ out₀) pre.fits

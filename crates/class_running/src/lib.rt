@@ -54,22 +54,22 @@ fn show(state: &[u8], out: &mut [u8], at: usize) -> u32
 
 // Start and run for one pupil, with Q1 copied to its part of the buffer.
 fn run_pupil<'a>(
-    table: &'a [u32],
+    table: Table<'a>,
     input: &'a [u8],
     budget: u32,
     state: &mut [u8],
     out: &mut [u8],
     at: usize,
 ) -> Result<Told, Question>
-    requires { Seated table.now (length state.old) at (length out.old) }
-    ensures { Answered (pupil table.now input.now budget) out.old at result out.new }
+    requires { Seated table.cells.now (length state.old) at (length out.old) }
+    ensures { Answered (pupil table.entry.cells.now input.now budget) out.old at result out.new }
 {
     if !check_inputs::are_inputs(input, b"") {
         return Err(Question::Inputs);
     }
     starting::start(state);
     let task = Task {
-        table: Table { cells: table },
+        table,
         first: input,
         second: b"",
     };
@@ -97,10 +97,10 @@ fn write_result(results: &mut [u32], at: usize, told: Result<Told, Question>)
 }
 
 // One pupil after the other.
-// The C call lends inputs, lengths, budgets, results and buffer side by side, so they come so here and in `run_class`.
+// Inputs, lengths, budgets, results and buffer come as `run_class` gets them from C: a struct of five slices would be made here to be taken apart.
 // No `zip` with the budgets: the index is needed for the part of the results and of the buffer, and finds the budget too.
 fn run_pupils(
-    table: &[u32],
+    table: Table,
     inputs: &[u8],
     lengths: &[u32],
     budgets: &[u32],
@@ -108,8 +108,8 @@ fn run_pupils(
     results: &mut [u32],
     out: &mut [u8],
 )
-    requires { Classable table.now inputs.now lengths.now budgets.now results.old out.old (length state.old) }
-    ensures { Written table.now inputs.now lengths.now budgets.now results.old out.old results.new out.new }
+    requires { Classable table.cells.now inputs.now lengths.now budgets.now results.old out.old (length state.old) }
+    ensures { Written table.entry.cells.now inputs.now lengths.now budgets.now results.old out.old results.new out.new }
 {
     let mut from = 0;
     for (k, length) in lengths.iter().enumerate() {
@@ -128,7 +128,7 @@ fn run_pupils(
 }
 
 // "One call takes a table and up to 16 inputs for I1, laid end to end with their lengths, and one budget for each."
-// The class is taken, or 62 or 71 is answered no.
+// The class is taken, or 62 or 71 is answered no. The parameters are those that C lends.
 pub fn run_class(
     table: &[u32],
     inputs: &[u8],
@@ -152,11 +152,12 @@ pub fn run_class(
         return Err(Question::Class);
     }
     let mut state = [0u8; Machine::STATE];
+    let table = Table { cells: table };
     run_pupils(table, inputs, lengths, budgets, &mut state, results, out);
     Ok(())
 }
 
 // Of `running`, passed on to the crates above.
 pub mod from_running {
-    pub use running::run;
+    pub use running::{PAUSE, Ran, run};
 }

@@ -1,21 +1,21 @@
 -- One piece printed after another, and numbers.
 use mathlib.Core.Path.{◌≡◌, refl, ap, sym, ◌∙◌}
-use mathlib.Core.Bool.{Bool, true, false, cond}
+use mathlib.Core.Bool.{Bool, true, false}
 use mathlib.Core.List.{List, [], ◌∷◌, ◌++◌}
 use Prim.Native.Nat.{ℕ, zero, suc, ◌+◌, ◌-◌, ◌/◌, ◌%◌, ◌≤◌}
 use native.Mathlib.Omega.{arith}
-use lib.Dec.{eqb, ltb}
+use lib.Dec.{ltb}
 use lib.ListN.{length, take, length-append}
-use borrow.Author.Tests.{le-leb, ne_eqb}
+use Rattle.std.specs.Prelude.{Option, None, Some}
+use borrow.Author.Tests.{le-leb}
 use Rattle.cells.proofs.Laws.{length-pasted, pasted-pasted, pasted-front}
 use Rattle.cells.specs.Cells.{pasted}
 use Rattle.components.specs.Parts.{Written}
 use Rattle.language.specs.Values.{digits, decimal}
 use Rattle.layout.specs.Cells.{uncode}
 use Rattle.lists.specs.Quoted.{bytes}
-use Rattle.machine.specs.Runs.Answer.{pause, stopped}
 use Rattle.console.specs.Console.{number_bytes, field, answer_bytes}
-use Rattle.console.specs.Parts.{Put, answer_by}
+use Rattle.console.specs.Parts.{Put, answer_of}
 
 -- how long the cells stay
 pub put-long : {d x e : List ℕ} {at r : ℕ} → Put d at x e r → length e ≡ length d
@@ -62,15 +62,6 @@ number-told n {d} {r = r} h =
     let l : List ℕ = decimal (uncode (n + 8388607)) in
     ap (take r) h.is ∙ pasted-front d l r (sym h.count) ∙ number_of n
 
-pub is-pause : (n : ℕ) → n ≡ 81 → answer_bytes (answer_by n) ≡ answer_bytes (answer_by 81)
-is-pause n e = ap (λ k. answer_bytes (answer_by k)) e
-
-pub is_stop : (n : ℕ) → (n ≡ 81 → ⊥) → answer_bytes (answer_by n) ≡ field (bytes "STOP ") n
-is_stop n h = rw (ne_eqb n 81 h) refl
-
-pub answer-most : (n : ℕ) → length (answer_bytes (answer_by n)) ≤ 12
-answer-most n = go (eqb n 81)
-  where
-    go : (b : Bool) → length (answer_bytes (cond b pause (stopped n))) ≤ 12
-    go true = omega arith
-    go false = omega (arith, field-most (bytes "STOP ") n)
+pub answer-most : (stopped : Option ℕ) → length (answer_bytes (answer_of stopped)) ≤ 12
+answer-most None = omega arith
+answer-most (Some n) = omega (arith, field-most (bytes "STOP ") n)

@@ -3,10 +3,11 @@ use Rattle.std.specs.Prelude.{◌≡◌, refl, Bool, true, false, cond, List, []
 use Rattle.std.proofs.Common.{ap, sym, ◌∙◌, append_assoc, arith, length-append}
 use Rattle.std.proofs.Math.Seq.{take-append_seam}
 use Rattle.lists.specs.Lists.{joined}
+use Rattle.cells.proofs.Laws.{pasted-front}
 use Rattle.text_lines.specs.LineLaws.{lines-first, joined-lines}
 use Rattle.text_lines.specs.Lines.{lines, line_length}
 use Rattle.console.specs.Console.{is_last, through, text_of, input_of}
-use Rattle.console.specs.Parts.{TextEnd}
+use Rattle.console.specs.Parts.{TextEnd, Put}
 
 text_by : (l : List ℕ) (ls : List (List ℕ)) → joined (through (l ∷ ls)) ≡ l ++ cond (is_last l) [] (joined (through ls))
 unfolding through
@@ -46,3 +47,7 @@ text-ends s {r} e =
       text = ap (λ n. take n s) e ∙ ap (take (length (text_of s))) k.1 ∙ take-append_seam (text_of s) k.0;
       input = ap (λ n. drop n s) e;
     }
+
+-- what is printed at the front stands there
+pub put_front : {d x e : List ℕ} {r : ℕ} → Put d 0 x e r → take r e ≡ x
+put_front {d} {x} {r = r} h = ap (take r) h.is ∙ pasted-front d x r (omega (arith, h.count))

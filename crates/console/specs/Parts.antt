@@ -1,5 +1,5 @@
 -- What the functions of the console ask and promise.
-use Rattle.std.specs.Prelude.{◌≡◌, cond, List, ℕ, ◌+◌, ◌≤◌, eqb, length, take, drop}
+use Rattle.std.specs.Prelude.{◌≡◌, List, ℕ, ◌+◌, ◌≤◌, length, take, drop, Option, None, Some, MatchOption}
 use Rattle.cells.specs.Cells.{pasted}
 use Rattle.machine.specs.Runs.{Answer}
 use Rattle.machine.specs.Runs.Answer.{pause, stopped}
@@ -28,13 +28,23 @@ pub record RefusalRoom (long line : ℕ) : Type 0 where
   pub room : 64 ≤ long
   pub most : line ≤ 8388607
 
+-- a number that stopped a run, if there is one, can be printed
+abbrev pub SmallStop : Option ℕ → Type 0
+SmallStop stop = MatchOption stop (Unit {0}) (λ n. n ≤ 8388607)
+
+-- room for STOP with a number, or for PAUSE
+pub record StopRoom (long at : ℕ) (stop : Option ℕ) : Type 0 where
+  pub room : at + 13 ≤ long
+  pub most : SmallStop stop
+
 -- room behind Q1 for the last line
-pub record EndRoom (long at number line count : ℕ) : Type 0 where
+pub record EndRoom (long at : ℕ) (stop : Option ℕ) (line count : ℕ) : Type 0 where
   pub room : at + 64 ≤ long
-  pub number_most : number ≤ 8388607
+  pub number_most : SmallStop stop
   pub line_most : line ≤ 8388607
   pub count_most : count ≤ 8388607
 
--- an answer by its number: 81 is pause
-abbrev pub answer_by : ℕ → Answer
-answer_by number = cond (eqb number 81) pause (stopped number)
+-- an answer by the number that stopped the run, none for a pause
+abbrev pub answer_of : Option ℕ → Answer
+answer_of None = pause
+answer_of (Some number) = stopped number

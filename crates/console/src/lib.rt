@@ -3,12 +3,9 @@
 
 ghost use Rattle.std.specs.Prelude.{◌≡◌, ◌+◌, ◌≤◌, ◌<◌, length};
 ghost use Rattle.console.specs.Console.{is_last, two_digits, field, refusal_line, answer_bytes, end_line};
-ghost use Rattle.console.specs.Parts.{TextEnd, Put, Room, RefusalRoom, EndRoom, answer_by};
+ghost use Rattle.console.specs.Parts.{TextEnd, Put, Room, RefusalRoom, StopRoom, EndRoom, answer_of};
 
 const KONP: [u8; 4] = *b"KONP";
-
-// The number of a pause, as the C call tells it. Not a constant of `running`: for one number the console would stand on the whole run.
-const PAUSE: usize = 81;
 
 // Whether a line is one "starting with KONP".
 fn is_last(line: &[u8]) -> bool
@@ -48,7 +45,7 @@ fn put_field(out: &mut [u8], at: usize, name: &[u8], n: usize) -> usize
     requires { Room (length out.old) at (length name.now) n }
     ensures { Put out.old at (field name.now n) out.new result }
 {
-    let mut digits = [0u8; 8];
+    let mut digits = [0u8; decimals::LONGEST];
     let count = decimals::put_decimal(&mut digits, n + components::ZERO);
     let next = put(out, at, name);
     put(out, next, &digits[..count])
@@ -75,24 +72,29 @@ pub fn refusal(out: &mut [u8], number: usize, line: usize) -> usize
     put(out, c, b"\n")
 }
 
-// Writes PAUSE, or STOP with the number.
-// The number is the one that the C call of a run tells, here and in `put_end`.
-fn put_answer(out: &mut [u8], at: usize, number: usize) -> usize
-    requires { Room (length out.old) at 5 number }
-    ensures { Put out.old at (answer_bytes (answer_by number)) out.new result }
+// Writes STOP with the number that stopped a run, or PAUSE where none did.
+fn put_answer(out: &mut [u8], at: usize, stopped: Option<usize>) -> usize
+    requires { StopRoom (length out.old) at stopped }
+    ensures { Put out.old at (answer_bytes (answer_of stopped)) out.new result }
 {
-    if number == PAUSE {
-        return put(out, at, b"PAUSE");
+    match stopped {
+        None => put(out, at, b"PAUSE"),
+        Some(number) => put_field(out, at, b"STOP ", number),
     }
-    put_field(out, at, b"STOP ", number)
 }
 
 // Writes the last line of a run.
-pub fn put_end(out: &mut [u8], at: usize, number: usize, line: usize, count: usize) -> usize
-    requires { EndRoom (length out.old) at number line count }
-    ensures { Put out.old at (end_line (answer_by number) line count) out.new result }
+pub fn put_end(
+    out: &mut [u8],
+    at: usize,
+    stopped: Option<usize>,
+    line: usize,
+    count: usize,
+) -> usize
+    requires { EndRoom (length out.old) at stopped line count }
+    ensures { Put out.old at (end_line (answer_of stopped) line count) out.new result }
 {
-    let a = put_answer(out, at, number);
+    let a = put_answer(out, at, stopped);
     let b = put_field(out, a, b" LINE ", line);
     let c = put_field(out, b, b" STEPS ", count);
     put(out, c, b"\n")

@@ -3,9 +3,11 @@
 
 ghost use Rattle.std.specs.Prelude.{◌≤◌, length, take, OnOk};
 ghost use Rattle.std.specs.Io.KnownBytes.{Appends, Consumes};
+ghost use Rattle.batch.specs.Printed.{printed_most};
 ghost use Rattle.console.specs.Console.{printed};
 ghost use Rattle.eol2.specs.Answering.{Answers};
 
+use language::Machine;
 use std::io;
 use std::io::{Read, Write};
 
@@ -28,7 +30,7 @@ fn read_full<R: Read>(input: &mut R, buffer: &mut [u8]) -> usize
 // Prints what the input brings. Where it is known which bytes a writer holds, they are then the last ones.
 // `batch` tells how many bytes of `out` it wrote, and `read_full` how many of `input` it read: those alone are passed on.
 fn print<W: Write>(to: &mut W, input: &[u8], out: &mut [u8]) -> io::Result<()>
-    requires { 4224 ≤ length out.old }
+    requires { printed_most ≤ length out.old }
     ensures { OnOk result (Appends (W.contents to.old) (W.contents to.new) (printed input.now)) }
 {
     let n = batch::answer(input, out);
@@ -39,9 +41,9 @@ fn print<W: Write>(to: &mut W, input: &[u8], out: &mut [u8]) -> io::Result<()>
 fn answer<R: Read, W: Write>(from: &mut R, to: &mut W) -> io::Result<()>
     ensures { Answers (R.remaining from.old) (R.remaining from.new) (W.contents to.old) (W.contents to.new) result }
 {
-    let mut input = [0u8; 65536];
+    let mut input = [0u8; Machine::INPUT];
     let n = read_full(from, &mut input);
-    let mut out = [0u8; 4224];
+    let mut out = [0u8; batch::PRINTED];
     print(to, &input[..n], &mut out)
 }
 

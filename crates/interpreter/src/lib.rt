@@ -11,24 +11,30 @@ ghost use Rattle.macros.specs.Load.{load_in};
 ghost use Rattle.shortening.specs.Below.Told.{loaded_number, loaded_line};
 ghost use Rattle.shortening.specs.Trying.{shortened_number, shortened_filled};
 ghost use Rattle.state_frames.specs.Keeping.{write_of, read_of, Reads};
-ghost use Rattle.interpreter.specs.Answers.{Answers, AnswersLoad, AnswersShorten, AnswersClass};
+ghost use Rattle.interpreter.specs.Answers.{Answers, ran_number, ran_count, AnswersLoad, AnswersShorten, AnswersClass};
 
 use calls::{Filled, Question};
 use class_running::from_running;
+use class_running::from_running::Ran;
 use language::Machine;
 use shortening::{Shortened, from_macro_loading};
 use state_restoring::from_state_saving;
 use tasks::Lent;
 use translating::from_loading::Loaded;
 
-// The number of an accepted call.
+// The number of an accepted call; that of a run that is paused is `PAUSE`.
 pub const ACCEPTED: u8 = 80;
+
+pub use class_running::from_running::PAUSE;
+
+// How many values an answer has beside a number.
+pub const VALUES: u64 = 4_294_967_296;
 
 // Number and value in one. The numbers below are those that C gets.
 fn packed(number: u8, value: u32) -> u64
     ensures { result ≡ packed number value }
 {
-    u64::from(number) * 4294967296 + u64::from(value)
+    u64::from(number) * VALUES + u64::from(value)
 }
 
 // A question answered no, without line or count.
@@ -85,6 +91,16 @@ fn packed_taken(r: Result<(), Question>) -> u64
     packed_filled(r.map(|()| 0))
 }
 
+// Of a run: "its count of completed instructions", with the number of a pause or of the stop.
+fn packed_ran(r: Result<Ran, Question>) -> u64
+    ensures { result ≡ packed (ran_number r) (ran_count r) }
+{
+    match r {
+        Ok(ran) => packed(ran.number(), ran.count),
+        Err(q) => packed_no(q),
+    }
+}
+
 // The number and the line of a text: "Accepted is 80 (load: line 0)".
 pub fn eol2_load(text: &[u8], table: &mut [u32]) -> u64
     ensures { AnswersLoad (load_in (length table.old) text.now) table.old result table.new }
@@ -107,9 +123,20 @@ pub fn eol2_shorten(text: &[u8], table: &mut [u32], out: &mut [u8]) -> u64
     packed_shortened(shortening::shorten(text, table, out))
 }
 
+// Start, or the first question answered no.
+fn begin(lent: Lent, state: &mut [u8]) -> Result<(), Question>
+    ensures { Answers (start_of lent.entry.table.now (lent.entry.first.now ∷ lent.entry.second.now ∷ []) state.old) (packed (taken_number result) 0) state.new }
+{
+    check_calls::ask(lent)?;
+    if state.len() < Machine::STATE {
+        return Err(Question::State);
+    }
+    starting::start(state);
+    Ok(())
+}
+
 // "Start then makes H plus, all else empty."
 // Table, I1 and I2 are arguments of their own here and in three calls below, since C lends them one by one.
-// What this call and `eol2_run` share, the first question, is `check_calls::ask`; each tells a refusal itself.
 pub fn eol2_start(table: &[u32], i1: &[u8], i2: &[u8], state: &mut [u8]) -> u64
     ensures { Answers (start_of table.now (i1.now ∷ i2.now ∷ []) state.old) result state.new }
 {
@@ -118,14 +145,18 @@ pub fn eol2_start(table: &[u32], i1: &[u8], i2: &[u8], state: &mut [u8]) -> u64
         first: i1,
         second: i2,
     };
-    if let Err(no) = check_calls::ask(lent) {
-        return packed_no(no);
+    packed_taken(begin(lent, state))
+}
+
+// A run, or the first question answered no.
+fn run(lent: Lent, state: &mut [u8], budget: u32) -> Result<Ran, Question>
+    ensures { Answers (run_of lent.entry.table.now (lent.entry.first.now ∷ lent.entry.second.now ∷ []) budget state.old) (packed (ran_number result) (ran_count result)) state.new }
+{
+    let task = check_calls::ask(lent)?;
+    if !check_state::is_state(task, state) {
+        return Err(Question::State);
     }
-    if state.len() < Machine::STATE {
-        return packed_no(Question::State);
-    }
-    starting::start(state);
-    packed(ACCEPTED, 0)
+    Ok(from_running::run(task, state, budget))
 }
 
 // Run "takes at most the budget of steps"; the answer has the count of completed instructions.
@@ -137,15 +168,7 @@ pub fn eol2_run(table: &[u32], i1: &[u8], i2: &[u8], state: &mut [u8], budget: u
         first: i1,
         second: i2,
     };
-    let task = match check_calls::ask(lent) {
-        Ok(task) => task,
-        Err(no) => return packed_no(no),
-    };
-    if !check_state::is_state(task, state) {
-        return packed_no(Question::State);
-    }
-    let r = from_running::run(task, state, budget);
-    packed(r.number(), r.count)
+    packed_ran(run(lent, state, budget))
 }
 
 // The number, and how many bytes of the buffer are the state as lines of frames: "An ill-formed state to write, or memory too short, brings 63; the
@@ -161,6 +184,7 @@ pub fn eol2_write_state(table: &[u32], i1: &[u8], i2: &[u8], state: &[u8], out: 
     packed_filled(from_state_saving::write_state(lent, state, out))
 }
 
+// Not one with `eol2_write_state`: two calls that C makes, each of one call below.
 // The number; the state is the one that the lines of frames give. "A refused call changes nothing."
 pub fn eol2_read_state(table: &[u32], i1: &[u8], i2: &[u8], saved: &[u8], state: &mut [u8]) -> u64
     ensures { Reads (read_of table.now (i1.now ∷ i2.now ∷ []) saved.now state.old) result state.new }

@@ -6,11 +6,12 @@ ghost use Rattle.std.specs.Prelude.{◌≡◌};
 ghost use Rattle.running.specs.Running.{stop_number, RanTo, Runnable, RanOn};
 
 use instructions::{Bench, Question, Task};
+use layout::StatePlaces;
 use state::{Scalars, Working};
 use strings::Strings;
 
 // The number of a pause.
-const PAUSE: u8 = 81;
+pub const PAUSE: u8 = 81;
 
 // The answer of a run: the question that stopped it, none for a pause; and how many instructions were completed.
 #[derive(Clone, Copy, Debug, PartialEq, Eq)]
@@ -54,8 +55,8 @@ pub fn run(task: Task, state: &mut [u8], budget: u32) -> Ran
 {
     let strings = Strings::new();
     let scalars = Scalars::default();
-    let hold = [0; 32768];
-    let given = [0; 32768];
+    let hold = [0; StatePlaces::ROW];
+    let given = [0; StatePlaces::ROW];
     let mut bench = Bench {
         state: Working { strings, scalars },
         hold,

@@ -24,12 +24,12 @@ use Rattle.state_contents.specs.Contents.{Stored, Gathered, Standing, half_of, s
 
 -- ---- of a kind by its number
 
-pub gathered-by : (i : ℕ) (fs : List Frame) {j k : ℕ} {p : Option ℕ} {o : List ℕ} → j ≡ k → Gathered (contents_at j i fs) p o → Gathered (contents_at k i fs) p o
-gathered-by i fs {p = p} {o = o} e = subst (λ k. Gathered (contents_at k i fs) p o) e
+pub gathered-by : (fs : List Frame) {j k a i : ℕ} {p : Option ℕ} {o : List ℕ} → j ≡ k → a ≡ i → Gathered (contents_at j a fs) p o → Gathered (contents_at k i fs) p o
+gathered-by fs e f g = rw (e, f) at g
 
-pub standing-by : (i : ℕ) (fs : List Frame) {j k from to : ℕ} {o : List ℕ} → j ≡ k → Standing (length (contents_at j i fs) ≤ length o) (contents_at j i fs) o from to
+pub standing-by : (fs : List Frame) {j k a i from to : ℕ} {o : List ℕ} → j ≡ k → a ≡ i → Standing (length (contents_at j a fs) ≤ length o) (contents_at j a fs) o from to
     → Standing (length (contents_at k i fs) ≤ length o) (contents_at k i fs) o from to
-standing-by i fs {from = from} {to = to} {o = o} e = subst (λ k. Standing (length (contents_at k i fs) ≤ length o) (contents_at k i fs) o from to) e
+standing-by fs e f s = rw (e, f) at s
 
 -- ---- whole contents
 

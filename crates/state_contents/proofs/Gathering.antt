@@ -24,14 +24,14 @@ use Rattle.state_frames.proofs.HexadecimalLaws.{digit-back, digit-is, bytes_belo
 use Rattle.state_frames.specs.Frames.{Frame, check, front_bytes, frame_bytes, frame_line, frame_in, right_length, right_sum, sound_line, sound_text, frames_in}
 use Rattle.state_frames.proofs.FrameLaws.{frame-of-bytes, line-of-frame}
 use Rattle.state_frames.specs.Saved.{is_at, contents_at}
-use Rattle.hexadecimal.specs.Digits.{byte_of, told_byte, digits_at, Got}
-use Rattle.hexadecimal.proofs.Laws.{byte-yes, two-digit, told-under, length-hexadecimal, hexadecimal-append}
+use Rattle.hexadecimal.specs.Digits.{byte_by, told_byte, digits_at, Got}
+use Rattle.hexadecimal.proofs.Laws.{two-digit, told-byte, told-byte-some, length-hexadecimal, hexadecimal-append}
 use Rattle.state_lines.specs.Lengths.{Measured, contents_length}
 use Rattle.state_contents.specs.Contents.{Begins, Lined, Tells, added, Behind, Added, Gathered}
 
 -- ---- a byte and bytes in hexadecimal
 
-byte-back : (x : ℕ) → x < 256 → byte_of (digit (x / 16)) (digit (x % 16)) ≡ x
+byte-back : (x : ℕ) → x < 256 → told_byte (digit (x / 16)) (digit (x % 16)) ≡ Some x
 byte-back x h =
     let high : x / 16 < 16 = omega arith in
     let low : x % 16 < 16 = omega arith in
@@ -39,7 +39,8 @@ byte-back x h =
     let b = digit-back (x % 16) low in
     let u = digit (x / 16) in
     let v = digit (x % 16) in
-    sym (byte-yes u v (two-digit u v (rw a high) (rw b low))) ∙ rw (a, b) (omega arith)
+    let e : byte_by u v ≡ x = rw (a, b) (omega arith) in
+    told-byte u v (two-digit u v (rw a high) (rw b low)) ∙ ap (λ (n : ℕ). Some n) e
 
 all_digits : (c : List ℕ) → Below 256 c → T (all is_digit (hexadecimal c))
 unfolding hexadecimal
@@ -84,51 +85,54 @@ module _ {t : List ℕ} {f : Frame} (l : Begins t f) where
 
   -- two digits from k on
   read-there : (k : ℕ) (x : ℕ) → x < 256 → get_or (frame_line f ++ v) k 0 ≡ digit (x / 16) → get_or (frame_line f ++ v) (1 + k) 0 ≡ digit (x % 16)
-      → byte_of (get_or t k 0) (get_or t (1 + k) 0) ≡ x
+      → told_byte (get_or t k 0) (get_or t (1 + k) 0) ≡ Some x
   read-there k x h a b =
       let p : get_or t k 0 ≡ digit (x / 16) = byte-there k ∙ a in
       let q : get_or t (1 + k) 0 ≡ digit (x % 16) = byte-there (1 + k) ∙ b in
-      (λ i. byte_of (p i) (q i)) ∙ byte-back x h
+      (λ i. told_byte (p i) (q i)) ∙ byte-back x h
 
   bytes-there : Below 256 (frame_bytes f)
   bytes-there = l.below
 
-  pub kind-there : byte_of (get_or t 0 0) (get_or t 1 0) ≡ f.kind
+  -- its kind and its index are told
+  pub kind-there : told_byte (get_or t 0 0) (get_or t 1 0) ≡ Some f.kind
   unfolding hexadecimal line frame_bytes
   kind-there = read-there 0 f.kind bytes-there.0 refl refl
 
-  pub index-there : byte_of (get_or t 2 0) (get_or t 3 0) ≡ f.index
+  pub index-there : told_byte (get_or t 2 0) (get_or t 3 0) ≡ Some f.index
   unfolding hexadecimal line frame_bytes
   index-there = read-there 2 f.index bytes-there.1.0 refl refl
 
-  pub size-there : contents_length t ≡ length c
+  high-there : told_byte (get_or t 4 0) (get_or t 5 0) ≡ Some (length c / 256)
   unfolding hexadecimal line frame_bytes
+  high-there = read-there 4 (length c / 256) bytes-there.1.1.0 refl refl
+
+  low-there : told_byte (get_or t 6 0) (get_or t 7 0) ≡ Some (length c % 256)
+  unfolding hexadecimal line frame_bytes
+  low-there = read-there 6 (length c % 256) bytes-there.1.1.1.0 refl refl
+
+  high-is : length c / 256 ≡ byte_by (get_or t 4 0) (get_or t 5 0)
+  high-is = (told-byte-some _ _ (length c / 256) high-there).1
+
+  low-is : length c % 256 ≡ byte_by (get_or t 6 0) (get_or t 7 0)
+  low-is = (told-byte-some _ _ (length c % 256) low-there).1
+
+  pub size-there : contents_length t ≡ length c
   size-there =
       let n = length c in
-      let high = read-there 4 (n / 256) bytes-there.1.1.0 refl refl in
-      let low = read-there 6 (n % 256) bytes-there.1.1.1.0 refl refl in
-      rw (high, low) (omega arith)
+      let e : 256 * (n / 256) + n % 256 ≡ n = omega arith in
+      (λ i. 256 * sym high-is i + sym low-is i) ∙ e
 
   pub line-within : 11 + 2 * length c ≤ length t
   line-within = omega (arith, ap length l.line, length-append (frame_line f) v, line-long f)
 
   pub measured : Measured t
-  unfolding hexadecimal line frame_bytes
   measured =
       record {
         there = omega (arith, line-within);
-        high = told-under _ _ (omega (arith, read-there 4 (length c / 256) bytes-there.1.1.0 refl refl, bytes-there.1.1.0));
-        low = told-under _ _ (omega (arith, read-there 6 (length c % 256) bytes-there.1.1.1.0 refl refl, bytes-there.1.1.1.0));
+        high = high-there ∙ ap (λ (n : ℕ). Some n) high-is;
+        low = low-there ∙ ap (λ (n : ℕ). Some n) low-is;
       }
-
-  -- its kind and its index are told
-  pub kind-told : told_byte (get_or t 0 0) (get_or t 1 0) ≡ Some (byte_of (get_or t 0 0) (get_or t 1 0))
-  unfolding frame_bytes
-  kind-told = told-under _ _ (omega (arith, kind-there, bytes-there.0))
-
-  pub index-told : told_byte (get_or t 2 0) (get_or t 3 0) ≡ Some (byte_of (get_or t 2 0) (get_or t 3 0))
-  unfolding frame_bytes
-  index-told = told-under _ _ (omega (arith, index-there, bytes-there.1.0))
 
   contents_below : Below 256 c
   unfolding frame_bytes

@@ -1,5 +1,5 @@
 -- What is promised of the contents of frames, and of a memory laid out from them.
-use Rattle.std.specs.Prelude.{◌≡◌, Bool, cond, List, [], ◌++◌, ℕ, ◌+◌, ◌*◌, ◌-◌, ◌≤◌, ◌<◌, T, length, take, drop, Option, MatchOption}
+use Rattle.std.specs.Prelude.{◌≡◌, Bool, cond, List, [], ◌++◌, ℕ, ◌+◌, ◌*◌, ◌-◌, ◌≤◌, ◌<◌, length, take, drop, Option, MatchOption}
 use Rattle.language.specs.Limits as limit
 use Rattle.language.specs.Values.{State}
 use Rattle.lists.specs.Lists.{joined}
@@ -8,7 +8,7 @@ use Rattle.layout.specs.Bounds.{Below}
 use Rattle.layout.specs.Cells.{two}
 use Rattle.layout.specs.Places as layout
 use Rattle.layout.specs.Strings.{lengths, used}
-use Rattle.state_frames.specs.Frames.{Frame, frame_bytes, frame_line, sound_text, frames_in}
+use Rattle.state_frames.specs.Frames.{Frame, frame_bytes, frame_line, frames_in}
 use Rattle.state_frames.specs.Saved.{is_at, before_half, after_half, strings_by}
 use Rattle.state_frames.specs.MemoryFrames.{untotalled, SavedAs}
 
@@ -72,12 +72,6 @@ strings_of t = strings_by (frames_in t)
 abbrev pub Fitting : List ℕ → Type 0
 Fitting t = used (strings_of t) ≤ layout.room
 
--- j is a string of a state; a row has room for the contents of any frame of one
-pub record Findable (t : List ℕ) (j row : ℕ) : Type 0 where
-  pub sound : T (sound_text t)
-  pub one : j < layout.strings_count
-  pub room : row ≡ limit.state
-
 -- ---- a memory
 
 -- among the cells of a state there is a place `at` for string j
@@ -91,12 +85,6 @@ pub record PutOne (m : List ℕ) (j at : ℕ) (v : List ℕ) (r : ℕ) (m' : Lis
   pub most : r ≤ limit.state
   pub next : at + length v ≤ limit.state → r ≡ at + length v
   pub cells : at + length v ≤ limit.state → m' ≡ pasted (pasted m (layout.first_length + 2 * j) (two (length v))) at v
-
--- a text can be laid out in a memory by means of a row
-pub record Layable (t : List ℕ) (m row : ℕ) : Type 0 where
-  pub sound : T (sound_text t)
-  pub long : m ≡ limit.state
-  pub room : row ≡ limit.state
 
 -- the lengths and the bytes of strings, if they have room
 pub record StringsLaid (vs : List (List ℕ)) (m m' : List ℕ) : Type 0 where

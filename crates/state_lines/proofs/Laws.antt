@@ -16,9 +16,9 @@ use Rattle.layout.proofs.CellLaws.{twice}
 use Rattle.layout.specs.Cells.{cell}
 use Rattle.hexadecimal.specs.Below.Hexadecimal.{digit_value, is_digit, is_line, bytes_in}
 use Rattle.hexadecimal.specs.Below.Frames.{sum, right_length, right_sum, sound_line}
-use Rattle.hexadecimal.specs.Digits.{byte_of, told_byte, digits_at}
-use Rattle.hexadecimal.proofs.Laws.{byte-yes, byte-under, byte-over, digits-next, length_digits, all_two, bytes-two, digits-stop}
-use Rattle.state_lines.specs.Sums.{digits_sum, told_sum}
+use Rattle.hexadecimal.specs.Digits.{byte_by, told_byte, digits_at}
+use Rattle.hexadecimal.proofs.Laws.{told-byte, told-byte-none, told-byte-some, digits-next, length_digits, all_two, bytes-two, digits-stop}
+use Rattle.state_lines.specs.Sums.{told_sum}
 
 -- ---- the sum
 
@@ -31,14 +31,14 @@ pub summed-none : (l : List ℕ) → Summed l 0 0
 unfolding bytes_in
 summed-none l = record { digits_so_far = refl; sum_so_far = refl }
 
-pub summed-all : (l : List ℕ) (n j s : ℕ) → Summed l j s → j ≤ n → n ≤ j → s ≡ digits_sum l n
-unfolding digits_sum
+pub summed-all : (l : List ℕ) (n j s : ℕ) → Summed l j s → j ≤ n → n ≤ j → Some s ≡ told_sum l n
+unfolding told_sum
 summed-all l n j s r h k =
     let q : j ≡ n = omega arith in
     let d : all is_digit (digits_at l 0 n) ≡ true = ap (λ (m : ℕ). all is_digit (digits_at l 0 m)) (sym q) ∙ r.digits_so_far in
-    rw d (r.sum_so_far ∙ ap (λ (m : ℕ). sum (bytes_in (digits_at l 0 m)) % 256) q)
+    rw d (ap (λ (m : ℕ). Some m) (r.sum_so_far ∙ ap (λ (m : ℕ). sum (bytes_in (digits_at l 0 m)) % 256) q))
 
-module _ (l : List ℕ) (n j s : ℕ) (r : Summed l j s) (there : 2 * n ≤ length l) (k : j < n) (b : ℕ) (e : b ≡ byte_of (get_or l (2 * j) 0) (get_or l (1 + 2 * j) 0)) where
+module _ (l : List ℕ) (n j s : ℕ) (r : Summed l j s) (there : 2 * n ≤ length l) (k : j < n) where
   abbrev u : ℕ
   u = get_or l (2 * j) 0
 
@@ -48,65 +48,30 @@ module _ (l : List ℕ) (n j s : ℕ) (r : Summed l j s) (there : 2 * n ≤ leng
   more : 0 + 2 * (j + 1) ≤ length l
   more = omega arith
 
-  pub summed_turn : b < 256 → Summed l (j + 1) ((s + b) % 256)
-  summed_turn h =
+  pub summed_turn : (b : ℕ) → told_byte u v ≡ Some b → Summed l (j + 1) ((s + b) % 256)
+  summed_turn b e =
       let D = digits_at l 0 j in
       let z : 0 + 2 * j ≡ 2 * j = omega arith in
-      let both : is_digit u && is_digit v ≡ true = byte-under u v (rw (← e) h) in
+      let told = told-byte-some u v b e in
       let next : digits_at l 0 (j + 1) ≡ D ++ (u ∷ v ∷ []) = digits-next l 0 j more ∙ ap (λ (m : ℕ). D ++ (get_or l m 0 ∷ get_or l (1 + m) 0 ∷ [])) z in
       let long = length_digits l 0 j more in
-      let yes : is_digit u && (is_digit v && true) ≡ true = ap (λ (z : Bool). is_digit u && z) (and-true (is_digit v)) ∙ both in
-      let value : b ≡ 16 * digit_value u + digit_value v = e ∙ sym (byte-yes u v both) in
+      let yes : is_digit u && (is_digit v && true) ≡ true = ap (λ (z : Bool). is_digit u && z) (and-true (is_digit v)) ∙ told.0 in
       let total : sum (bytes_in (digits_at l 0 (j + 1))) ≡ sum (bytes_in D) + b =
-      ap (λ (m : List ℕ). sum (bytes_in m)) next ∙ ap sum (bytes-two j D u v long) ∙ ap (λ (m : ℕ). sum (bytes_in D ++ (m ∷ []))) (sym value)
+      ap (λ (m : List ℕ). sum (bytes_in m)) next ∙ ap sum (bytes-two j D u v long) ∙ ap (λ (m : ℕ). sum (bytes_in D ++ (m ∷ []))) (sym told.1)
       ∙ total-append (λ x. x) (bytes_in D) (b ∷ []) ∙ omega arith in
       record {
         digits_so_far = ap (all is_digit) next ∙ all_two D u v ∙ rw (r.digits_so_far, yes);
         sum_so_far = rw (r.sum_so_far, total) (omega arith);
       }
 
-  pub summed-stops : 256 ≤ b → 256 ≡ digits_sum l n
-  unfolding digits_sum
-  summed-stops h =
+  pub summed-stops : told_byte u v ≡ None → None ≡ told_sum l n
+  unfolding told_sum
+  summed-stops e =
       let z : 0 + 2 * j ≡ 2 * j = omega arith in
       let no : is_digit (get_or l (0 + 2 * j) 0) && is_digit (get_or l (1 + (0 + 2 * j)) 0) ≡ false =
-      ap (λ (m : ℕ). is_digit (get_or l m 0) && is_digit (get_or l (1 + m) 0)) z ∙ byte-over u v (rw (← e) h) in
+      ap (λ (m : ℕ). is_digit (get_or l m 0) && is_digit (get_or l (1 + m) 0)) z ∙ told-byte-none u v e in
       let d : all is_digit (digits_at l 0 n) ≡ false = digits-stop l 0 n j more k no in
       rw d
-
--- the sum, where it is told
-module _ (l : List ℕ) (n : ℕ) where
-  pub none_by : 256 ≡ digits_sum l n → None ≡ told_sum l n
-  unfolding digits_sum told_sum
-  none_by e = go (all is_digit (digits_at l 0 n)) e
-    where
-      go : (b : Bool) → 256 ≡ cond b (sum (bytes_in (digits_at l 0 n)) % 256) 256 → None ≡ cond b (Some (sum (bytes_in (digits_at l 0 n)) % 256)) None
-      go true e = absurd (omega (arith, e))
-      go false e = refl
-
-  pub some_by : (s : ℕ) → s < 256 → s ≡ digits_sum l n → Some s ≡ told_sum l n
-  unfolding digits_sum told_sum
-  some_by s h e = go (all is_digit (digits_at l 0 n)) e
-    where
-      go : (b : Bool) → s ≡ cond b (sum (bytes_in (digits_at l 0 n)) % 256) 256 → Some s ≡ cond b (Some (sum (bytes_in (digits_at l 0 n)) % 256)) None
-      go true e = ap (λ (k : ℕ). Some k) e
-      go false e = absurd (omega (arith, e, h))
-
-  pub told_none : told_sum l n ≡ None → 256 ≡ digits_sum l n
-  unfolding digits_sum told_sum
-  told_none e = go (all is_digit (digits_at l 0 n)) e
-    where
-      go : (b : Bool) → cond b (Some (sum (bytes_in (digits_at l 0 n)) % 256)) None ≡ None → 256 ≡ cond b (sum (bytes_in (digits_at l 0 n)) % 256) 256
-      go true e = cc
-      go false e = refl
-
-  pub told_some : (s : ℕ) → told_sum l n ≡ Some s → s ≡ digits_sum l n
-  unfolding digits_sum told_sum
-  told_some s e = go (all is_digit (digits_at l 0 n)) e
-    where
-      go : (b : Bool) → cond b (Some (sum (bytes_in (digits_at l 0 n)) % 256)) None ≡ Some s → s ≡ cond b (sum (bytes_in (digits_at l 0 n)) % 256) 256
-      go true e = cc
-      go false e = cc
 
 -- ---- a line of 2 k + 1 bytes
 
@@ -193,13 +158,25 @@ module _ (l : List ℕ) (k : ℕ) (h : length l ≡ 2 * k + 1) where
   unfolding sound_line
   no-sum e = rw e (sym (and-false (is_line l && right_length B)))
 
-  pub out-sum : (s : ℕ) → s ≡ digits_sum l k → (s ≡ 0 → ⊥) → false ≡ sound_line l
-  unfolding digits_sum
-  out-sum s e n = go (all is_digit D) refl e
+  pub out-none : told_sum l k ≡ None → false ≡ sound_line l
+  unfolding told_sum
+  out-none e = go (all is_digit D) refl e
     where
-      go : (b : Bool) → all is_digit D ≡ b → s ≡ cond b (sum (bytes_in D) % 256) 256 → false ≡ sound_line l
-      go true d q = no-sum (ne_eqb (sum B % 256) 0 (λ z. n (q ∙ ap (λ (m : List ℕ). sum m % 256) (sym (bytes-by k l h)) ∙ z)))
+      go : (b : Bool) → all is_digit D ≡ b → cond b (Some (sum (bytes_in D) % 256)) None ≡ None → false ≡ sound_line l
+      go true d q = cc
       go false d q = no_line l (line-by k l h ∙ rw d)
+
+  -- what is told is the sum of digits
+  told_digits : (s : ℕ) → told_sum l k ≡ Some s → (all is_digit D ≡ true) × (s ≡ sum B % 256)
+  unfolding told_sum
+  told_digits s e = go (all is_digit D) refl e
+    where
+      go : (b : Bool) → all is_digit D ≡ b → cond b (Some (sum (bytes_in D) % 256)) None ≡ Some s → (all is_digit D ≡ true) × (s ≡ sum B % 256)
+      go true d q = let v : s ≡ sum (bytes_in D) % 256 = cc in (d, v ∙ ap (λ (m : List ℕ). sum m % 256) (sym (bytes-by k l h)))
+      go false d q = cc
+
+  pub out-sum : (s : ℕ) → told_sum l k ≡ Some s → (s ≡ 0 → ⊥) → false ≡ sound_line l
+  out-sum s e n = no-sum (ne_eqb (sum B % 256) 0 (λ z. n ((told_digits s e).1 ∙ z)))
 
   -- two of the first digits
   both : (i j : ℕ) → i < 2 * k → j < 2 * k → all is_digit D ≡ true → is_digit (get_or l i 0) && is_digit (get_or l j 0) ≡ true
@@ -211,30 +188,20 @@ module _ (l : List ℕ) (k : ℕ) (h : length l ≡ 2 * k + 1) where
       is_true (is_digit (get_or l i 0) && is_digit (get_or l j 0)) (T-both (is_digit (get_or l i 0)) (is_digit (get_or l j 0)) (rw (get_or-take (2 * k) l i 0 a) at x) (rw (get_or-take (2 * k) l j 0 b) at y))
 
   -- the two bytes of the length are there
-  pub told_two : told_sum l k ≡ Some 0 → 5 ≤ k → (i : ℕ) → i ≤ 6 → told_byte (get_or l i 0) (get_or l (1 + i) 0) ≡ Some (byte_of (get_or l i 0) (get_or l (1 + i) 0))
-  unfolding told_sum told_byte
-  told_two e five i h = go (all is_digit D) refl e
-    where
-      go : (b : Bool) → all is_digit D ≡ b → cond b (Some (sum (bytes_in D) % 256)) None ≡ Some 0
-          → cond (is_digit (get_or l i 0) && is_digit (get_or l (1 + i) 0)) (Some (16 * digit_value (get_or l i 0) + digit_value (get_or l (1 + i) 0))) None ≡ Some (byte_of (get_or l i 0) (get_or l (1 + i) 0))
-      go false d q = cc
-      go true d q = let t = both i (1 + i) (omega arith) (omega arith) d in rw (t, byte-yes (get_or l i 0) (get_or l (1 + i) 0) t)
+  pub told_two : told_sum l k ≡ Some 0 → 5 ≤ k → (i : ℕ) → i ≤ 6 → told_byte (get_or l i 0) (get_or l (1 + i) 0) ≡ Some (byte_by (get_or l i 0) (get_or l (1 + i) 0))
+  told_two e five i h = told-byte (get_or l i 0) (get_or l (1 + i) 0) (both i (1 + i) (omega arith) (omega arith) (told_digits 0 e).0)
 
   sound : is_line l ≡ true → right_sum B ≡ true → sound_line l ≡ right_length B
   unfolding sound_line
   sound a b = rw (a, b) (and-true (right_length B))
 
-  pub out-all : (s high low : ℕ) (r : Bool) → get_or l (2 * k) 0 ≡ 10 → 5 ≤ k → s ≡ digits_sum l k → s ≡ 0 → high ≡ byte_of (get_or l 4 0) (get_or l 5 0)
-      → low ≡ byte_of (get_or l 6 0) (get_or l 7 0) → r ≡ eqb k (5 + (256 * high + low)) → r ≡ sound_line l
-  unfolding digits_sum
-  out-all s high low r z five e n eh el er = go (all is_digit D) refl e
-    where
-      go : (b : Bool) → all is_digit D ≡ b → s ≡ cond b (sum (bytes_in D) % 256) 256 → r ≡ sound_line l
-      go false d q = absurd (omega (arith, q, n))
-      go true d q =
-          let high_is : high ≡ cell B 2 = eh ∙ sym (byte-yes (get_or l 4 0) (get_or l 5 0) (both 4 5 (omega arith) (omega arith) d)) ∙ sym (byte-in 2 l (omega (arith, h))) in
-          let low-is : low ≡ cell B 3 = el ∙ sym (byte-yes (get_or l 6 0) (get_or l 7 0) (both 6 7 (omega arith) (omega arith) d)) ∙ sym (byte-in 3 l (omega (arith, h))) in
-          let line : is_line l ≡ true = line-by k l h ∙ rw (d, eq-eqb (get_or l (2 * k) 0) 10 z) in
-          let zero-sum : right_sum B ≡ true = eq-eqb (sum B % 256) 0 (ap (λ (m : List ℕ). sum m % 256) (bytes-by k l h) ∙ sym q ∙ n) in
-          let length_is : right_length B ≡ r = (let x = length-line k l h in λ i. eqb (x i) (5 + (256 * sym high_is i + sym low-is i))) ∙ sym er in
-          sym (sound line zero-sum ∙ length_is)
+  pub out-all : (high low : ℕ) (r : Bool) → get_or l (2 * k) 0 ≡ 10 → told_sum l k ≡ Some 0 → high ≡ byte_by (get_or l 4 0) (get_or l 5 0)
+      → low ≡ byte_by (get_or l 6 0) (get_or l 7 0) → 5 ≤ k → r ≡ eqb k (5 + (256 * high + low)) → r ≡ sound_line l
+  out-all high low r z e eh el five er =
+      let t = told_digits 0 e in
+      let high_is : high ≡ cell B 2 = eh ∙ sym (byte-in 2 l (omega (arith, h))) in
+      let low-is : low ≡ cell B 3 = el ∙ sym (byte-in 3 l (omega (arith, h))) in
+      let line : is_line l ≡ true = line-by k l h ∙ rw (t.0, eq-eqb (get_or l (2 * k) 0) 10 z) in
+      let zero-sum : right_sum B ≡ true = eq-eqb (sum B % 256) 0 (sym t.1) in
+      let length_is : right_length B ≡ r = (let x = length-line k l h in λ i. eqb (x i) (5 + (256 * sym high_is i + sym low-is i))) ∙ sym er in
+      sym (sound line zero-sum ∙ length_is)

@@ -5,10 +5,6 @@ use Rattle.hexadecimal.specs.Below.Hexadecimal.{is_digit, bytes_in}
 use Rattle.hexadecimal.specs.Below.Frames.{sum}
 use Rattle.hexadecimal.specs.Digits.{digits_at}
 
--- of the first n bytes of a line, modulo 256; 256 where these are not all digits
-unfoldable pub digits_sum : List ℕ → ℕ → ℕ
-digits_sum l n = cond (all is_digit (digits_at l 0 n)) (sum (bytes_in (digits_at l 0 n)) % 256) 256
-
--- the same where these are all digits
+-- of the first n bytes of a line, modulo 256, where these are all digits
 unfoldable pub told_sum : List ℕ → ℕ → Option ℕ
 told_sum l n = cond (all is_digit (digits_at l 0 n)) (Some (sum (bytes_in (digits_at l 0 n)) % 256)) None

@@ -5,6 +5,7 @@ ghost use Rattle.std.specs.Prelude.{◌≡◌, [], ◌∷◌, ◌++◌, ◌+◌,
 ghost use Rattle.cells.specs.Cells.{pasted, Number};
 ghost use Rattle.hexadecimal.specs.Below.Hexadecimal.{two_digits, hexadecimal};
 ghost use Rattle.hexadecimal.specs.Below.Frames.{framed, frame_line, sound_line, sound_text};
+ghost use Rattle.state_lines.specs.Kinds.{kind_number};
 ghost use Rattle.state_lines.specs.Lengths.{Measured, contents_length};
 ghost use Rattle.state_lines.specs.Sums.{told_sum};
 ghost use Rattle.state_lines.specs.Writing.{FrontRoom, FrameRoom, EndRoom, LengthsRoom, FileRoom};
@@ -38,8 +39,8 @@ pub struct Slot {
     pub index: usize,
 }
 
-// Those of which a state has one.
 impl Slot {
+    // Those of which a state has one.
     pub const HEAD: Slot = Slot {
         kind: Kind::Head as u8,
         index: 0,
@@ -49,20 +50,38 @@ impl Slot {
         kind: Kind::Stack as u8,
         index: 0,
     };
+
+    // A frame of one of the five kinds.
+    pub fn of(kind: Kind, index: usize) -> Slot
+        ensures kind { result.kind ≡ kind_number kind }
+        ensures index { result.index ≡ index }
+    {
+        Slot {
+            kind: u8::from(kind),
+            index,
+        }
+    }
 }
 
 // How many digits stand before a frame's contents.
 pub const FRONT: usize = 8;
+
+// How many stand before the records of a file: the length of those before its pointer comes first.
+const FILE_FRONT: usize = 12;
+
+// How many bytes a frame has beside its contents: its kind, its index, two for their length, and the check.
+const BESIDE: usize = 5;
 
 // How many bytes a line takes with contents of `n` bytes.
 pub fn line_length(n: usize) -> usize
     requires { n < 4294967296 }
     ensures { result ≡ 11 + 2 * n }
 {
-    11 + 2 * n
+    2 * (BESIDE + n) + 1
 }
 
-// Writes a frame's first four bytes: its kind, its index, and the length `n` of its contents, high byte first.
+// Writes a frame's first four bytes: its kind, its index, and the length `n` of its contents, high byte first. No `to_be_bytes`, here and below: the
+// bytes are written and summed as a `usize`, which each would become again.
 fn put_front(dst: &mut [u8], at: usize, slot: Slot, n: usize)
     requires { FrontRoom (length dst.old) at slot.index n }
     ensures { dst.new ≡ pasted dst.old at (hexadecimal (slot.kind ∷ slot.index ∷ n / 256 ∷ n % 256 ∷ [])) }
@@ -79,7 +98,7 @@ fn put_end(dst: &mut [u8], at: usize, sum: usize)
     ensures { dst.new ≡ pasted dst.old at (two_digits ((256 - sum) % 256) ++ (10 ∷ [])) }
 {
     hexadecimal::put_byte(dst, at, (256 - sum) % 256);
-    dst[at + 2] = 10;
+    dst[at + 2] = b'\n';
 }
 
 // Writes a frame as a line of 11 bytes and two for each of its contents.
@@ -91,8 +110,8 @@ pub fn put_frame(dst: &mut [u8], at: usize, slot: Slot, contents: &[u8])
     let front = (usize::from(slot.kind) + (slot.index + (n / 256 + n % 256))) % 256;
     let sum = hexadecimal::sum_from(front, contents);
     put_front(dst, at, slot, n);
-    hexadecimal::put_bytes(dst, at + 8, contents);
-    put_end(dst, at + (8 + 2 * n), sum);
+    hexadecimal::put_bytes(dst, at + FRONT, contents);
+    put_end(dst, at + (FRONT + 2 * n), sum);
 }
 
 // Writes the first six bytes of a file's frame: the four, with the length `n`, and the length `k` of the records before the pointer.
@@ -101,8 +120,8 @@ fn put_lengths(dst: &mut [u8], at: usize, slot: Slot, n: usize, k: usize)
     ensures { dst.new ≡ pasted dst.old at (hexadecimal (slot.kind ∷ slot.index ∷ n / 256 ∷ n % 256 ∷ k % 256 ∷ k / 256 ∷ [])) }
 {
     put_front(dst, at, slot, n);
-    hexadecimal::put_byte(dst, at + 8, k % 256);
-    hexadecimal::put_byte(dst, at + 10, k / 256);
+    hexadecimal::put_byte(dst, at + FRONT, k % 256);
+    hexadecimal::put_byte(dst, at + (FRONT + 2), k / 256);
 }
 
 // Writes the frame of a file with records as a line: those before its pointer and those after it.
@@ -112,18 +131,15 @@ pub fn put_file(dst: &mut [u8], at: usize, index: usize, before: &[u8], after: &
 {
     let k = before.len();
     let n = 2 + (k + after.len());
-    let slot = Slot {
-        kind: u8::from(Kind::File),
-        index,
-    };
+    let slot = Slot::of(Kind::File, index);
     let front = (usize::from(slot.kind) + (index + (n / 256 + (n % 256 + (k % 256 + k / 256)))))
         % 256;
     let sum = hexadecimal::sum_from(front, before);
     let all = hexadecimal::sum_from(sum, after);
     put_lengths(dst, at, slot, n, k);
-    hexadecimal::put_bytes(dst, at + 12, before);
-    hexadecimal::put_bytes(dst, at + (12 + 2 * k), after);
-    put_end(dst, at + (8 + 2 * n), all);
+    hexadecimal::put_bytes(dst, at + FILE_FRONT, before);
+    hexadecimal::put_bytes(dst, at + (FILE_FRONT + 2 * k), after);
+    put_end(dst, at + (FRONT + 2 * n), all);
 }
 
 // The sum modulo 256 of the first `n` bytes in hexadecimal, where these are all digits.
@@ -146,7 +162,7 @@ pub fn contents_length(line: &[u8]) -> usize
 {
     let high = hexadecimal::byte_at(line, 4).unwrap();
     let low = hexadecimal::byte_at(line, 6).unwrap();
-    256 * usize::from(high) + usize::from(low)
+    usize::from(u16::from_be_bytes([high, low]))
 }
 
 // Whether the line, with its LF, is hexadecimal with its length and sum right.
@@ -161,7 +177,7 @@ fn is_sound(line: &[u8]) -> bool
     if line[2 * k] != b'\n' {
         return false;
     }
-    if k < 5 {
+    if k < BESIDE {
         return false;
     }
     let Some(sum) = sum_digits(line, k) else {
@@ -170,10 +186,10 @@ fn is_sound(line: &[u8]) -> bool
     if sum != 0 {
         return false;
     }
-    k == 5 + contents_length(line)
+    k == BESIDE + contents_length(line)
 }
 
-// Question 68: whether every line is hexadecimal with its length and sum right.
+// Question 68: whether every line is hexadecimal with its length and sum right. No `split_inclusive`: of it std says nothing in the words of lines.
 pub fn is_sound_text(text: &[u8]) -> bool
     ensures { result ≡ sound_text text.now }
 {

@@ -63,11 +63,7 @@ fn put_strings(
     let mut at = from;
     for i in 0..count {
         let v = memory.string(first + i);
-        let slot = Slot {
-            kind: u8::from(kind),
-            index: i + 1,
-        };
-        at = put_some(out, at, slot, v);
+        at = put_some(out, at, Slot::of(kind, i + 1), v);
     }
     at
 }

@@ -2,12 +2,13 @@
 use Rattle.std.specs.Prelude.{◌≡◌, Bool, List, ℕ, min, ◌≤◌, length, take}
 use Rattle.lists.specs.Lists.{bytes_equal}
 use Rattle.layout.specs.Cells.{three_at}
+use Rattle.batch.specs.Printed.{printed_most}
 use Rattle.console.specs.Console.{printed}
 
 -- a head of 64 bytes, and room for what is printed
 pub record Buffers (head out : ℕ) : Type 0 where
   pub head_is : head ≡ 64
-  pub room : 4224 ≤ out
+  pub room : printed_most ≤ out
 
 -- whether the program prints what is expected
 abbrev pub prints_as : List ℕ → List ℕ → Bool

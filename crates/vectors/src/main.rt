@@ -2,8 +2,10 @@
 #![tactic(auto)]
 
 ghost use Rattle.std.specs.Prelude.{◌≡◌, ◌≤◌, min, length, drop};
+ghost use Rattle.batch.specs.Printed.{printed_most};
 ghost use Rattle.vectors.specs.Vectors.{Buffers, prints_as, passes_as};
 
+use language::Machine;
 use std::io;
 use std::io::{Read, Write};
 
@@ -29,7 +31,7 @@ fn fill<R: Read>(from: &mut R, buffer: &mut [u8], n: usize)
 
 // Whether the program prints what is expected.
 fn prints(input: &[u8], expected: &[u8], out: &mut [u8]) -> bool
-    requires { 4224 ≤ length out.old }
+    requires { printed_most ≤ length out.old }
     ensures { result ≡ prints_as input.now expected.now }
 {
     let n = batch::answer(input, out);
@@ -54,7 +56,7 @@ fn passes<R: Read>(
     prints(&input[..n], &expected[..m], out)
 }
 
-// Prints the name of a vector that does not pass.
+// Prints the name of a vector that does not pass. Of what a handle prints no contract speaks.
 fn differs<P: Print>(rt: &P, head: &[u8])
     requires { 56 ≤ length head.now }
 {
@@ -64,12 +66,14 @@ fn differs<P: Print>(rt: &P, head: &[u8])
     let _ = out.write_all(b"\n");
 }
 
-// How many vectors pass, up to the first that does not.
-fn count_passed<P: Print, R: Read>(rt: &P, from: &mut R) -> u64 {
+// How many vectors pass, up to the first that does not. Which ones they are, the bytes that the reader brings decide.
+fn count_passed<P: Print, R: Read>(rt: &P, from: &mut R) -> u64
+    ensures { result ≤ 100000 }
+{
     let mut head = [0u8; HEAD];
-    let mut input = [0u8; 65536];
-    let mut expected = [0u8; 4224];
-    let mut out = [0u8; 4224];
+    let mut input = [0u8; Machine::INPUT];
+    let mut expected = [0u8; batch::PRINTED];
+    let mut out = [0u8; batch::PRINTED];
     for count in 0..MOST {
         fill(from, &mut head, HEAD);
         if head[0] == 0 {

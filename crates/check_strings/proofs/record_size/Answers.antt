@@ -16,8 +16,8 @@ three_at-address-requires c =
     let is_framed = c.is_framed in
     omega (arith, framed-fits args.b.now is_framed.ensures (c.if-not-is_framed.false))
 
-pub slice_bounds-are_components-end : goal.slice_bounds-are_components-end
-slice_bounds-are_components-end c =
+pub slice_bounds-contents-end : goal.slice_bounds-contents-end
+slice_bounds-contents-end c =
     let args = c.args in
     let is_framed = c.is_framed in
     let if1 = c.if-not-is_framed in

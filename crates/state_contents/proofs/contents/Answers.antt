@@ -8,7 +8,7 @@ use Rattle.state_contents.proofs.contents.Goals as goal
 pub loop-rest-init : goal.loop-rest-init
 loop-rest-init c =
     let a = c.args in
-    (refl, gathering-none a.text.now a.slot.kind a.slot.index a.row.now c.requires)
+    (refl, gathering-none a.frames.text.now a.slot.kind a.slot.index a.row.now a.frames.sound)
 
 pub contents_length-size-requires : goal.contents_length-size-requires
 contents_length-size-requires c =

@@ -5,7 +5,7 @@ use Rattle.state_contents.proofs.Gathering.{Gathering}
 use Rattle.state_contents.proofs.contents.Given as goal
 
 abbrev pub invariant-loop-rest : goal.invariant-loop-rest
-invariant-loop-rest l = (length l.row ≡ length l.initial.row) × Gathering l.text l.slot.kind l.slot.index l.row l.n l.rest
+invariant-loop-rest l = (length l.row ≡ length l.initial.row) × Gathering l.frames.text.now l.slot.kind l.slot.index l.row l.n l.rest
 
 abbrev pub decreases-loop-rest : goal.decreases-loop-rest
 decreases-loop-rest l = length l.rest

@@ -2,18 +2,15 @@
 use native.Mathlib.Omega.{arith}
 use mathlib.Core.Path.{◌∙◌}
 use Rattle.state_contents.proofs.Laying.{zeros-long, state-laid}
-use borrow.Author.Rules.{rules}
 use Rattle.state_contents.proofs.lay_state.Goals as goal
 
 pub lay_head-requires : goal.lay_head-requires
 lay_head-requires c =
-    let pre = c.requires in
-    record { sound = pre.0; long = zeros-long pre.1; room = search rules }
+    zeros-long c.requires.1
 
 pub lay_strings-requires : goal.lay_strings-requires
 lay_strings-requires c =
-    let pre = c.requires in
-    record { sound = pre.0; long = (omega arith) ∙ zeros-long pre.1; room = search rules }
+    (omega arith) ∙ zeros-long c.requires.1
 
 pub returns : goal.returns
 returns c =

@@ -8,10 +8,10 @@ pub loop-j-init : goal.loop-j-init
 loop-j-init c =
     let a = c.args in
     let pre = c.requires in
-    (pre.room, laying-none a.text.now a.m.now pre.long)
+    (omega arith, laying-none a.frames.text.now a.m.now pre)
 
 pub string-s-requires : goal.string-s-requires
-string-s-requires c = record { sound = c.requires.sound; one = (omega arith); room = c.loop-j.invariant.0 }
+string-s-requires c = omega arith
 
 pub slice_bounds-put_string-count : goal.slice_bounds-put_string-count
 slice_bounds-put_string-count c = c.string-s.ensures.order
@@ -20,7 +20,7 @@ pub slice_bounds-put_string-start : goal.slice_bounds-put_string-start
 slice_bounds-put_string-start c = c.string-s.ensures.order
 
 pub slice_bounds-put_string-end : goal.slice_bounds-put_string-end
-slice_bounds-put_string-end c = c.string-s.ensures.within
+slice_bounds-put_string-end c = omega (arith, c.string-s.ensures.within)
 
 pub put_string-at-requires : goal.put_string-at-requires
 put_string-at-requires c =
@@ -32,7 +32,7 @@ loop-j-preserved c =
     let loop = c.loop-j in
     let string = c.string-s in
     let put = c.put_string-at in
-    let laid = laying-more c.requires.long loop.invariant.1 (omega arith) string.ensures.is put.ensures (omega arith) in
+    let laid = laying-more c.requires loop.invariant.1 (omega arith) string.ensures.is put.ensures (omega arith) in
     ((omega arith) ∙ loop.invariant.0, laid)
 
 pub returns : goal.returns

@@ -6,4 +6,4 @@ use Rattle.state_contents.proofs.Laying.{Laying}
 use Rattle.state_contents.proofs.lay_strings.Given as goal
 
 abbrev pub invariant-loop-j : goal.invariant-loop-j
-invariant-loop-j l = (length l.row ≡ limit.state) × Laying l.text l.initial.m l.m l.at l.j
+invariant-loop-j l = (length l.row ≡ limit.state) × Laying l.frames.text.now l.initial.m l.m l.at l.j

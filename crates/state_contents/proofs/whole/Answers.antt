@@ -3,8 +3,5 @@ use Rattle.std.proofs.Common.{rules}
 use Rattle.state_contents.proofs.Finding.{whole-all}
 use Rattle.state_contents.proofs.whole.Goals as goal
 
-pub contents-requires : goal.contents-requires
-contents-requires c = c.requires
-
 pub returns : goal.returns
 returns c = whole-all c.contents.ensures (search rules)

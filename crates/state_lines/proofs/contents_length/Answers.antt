@@ -1,5 +1,5 @@
 -- `state_lines::contents_length` meets its contract.
-use Rattle.std.proofs.Common.{◌∙◌, sym, refl, arith}
+use Rattle.std.proofs.Common.{◌≡◌, ◌∙◌, sym, refl, arith, ◌+◌, ◌*◌}
 use Rattle.hexadecimal.proofs.Laws.{told-byte-some}
 use Rattle.state_lines.proofs.contents_length.Goals as goal
 
@@ -16,4 +16,5 @@ pub returns : goal.returns
 returns c =
     let high = told-byte-some _ _ c.unwrap-high.result (sym c.byte_at.ensures ∙ c.unwrap-high.ensures) in
     let low = told-byte-some _ _ c.unwrap-low.result (sym c.byte_at-2.ensures ∙ c.unwrap-low.ensures) in
-    record { is = rw (c.from.ensures ∙ high.0, c.from-2.ensures ∙ low.0) refl; most = omega (arith, c.from.ensures, c.from-2.ensures, high.1, low.1) }
+    let n : c.from_be_bytes.result ≡ 256 * c.unwrap-high.result + c.unwrap-low.result = c.from_be_bytes.ensures ∙ omega arith in
+    record { is = c.from.ensures ∙ n ∙ rw (high.1, low.1) refl; most = omega (arith, c.from.ensures, n) }
