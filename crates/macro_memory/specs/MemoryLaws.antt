@@ -1,11 +1,12 @@
 -- What was written changes nothing the next time; what changes nothing never does later; and nothing is remembered in free slots.
-use Rattle.std.specs.Prelude.{◌≡◌, refl, Bool, true, false, ◌||◌, List, [], ◌∷◌, ◌++◌, ℕ, zero, suc, ◌+◌, ◌≤◌, ltb, length, take, replicate}
+use Rattle.std.specs.Prelude.{◌≡◌, refl, Bool, true, false, ◌||◌, List, [], ◌∷◌, ◌++◌, ℕ, zero, suc, ◌+◌, ◌≤◌, ◌<◌, ltb, length, take, map, get_or, replicate}
 use Rattle.std.proofs.Common.{sym, ap, ◌∙◌, true≢false, append-nil, arith, le-ltb}
-use Rattle.macros.specs.Expansion.{Writing, places_of}
+use Rattle.macros.specs.Expansion.{Writing, filled_in, places_of}
 use Rattle.statements.specs.Faults.{lower}
 use Rattle.statements.specs.StatementAt.{fault_of}
 use Rattle.statements.specs.Faults as told
 use Rattle.std.specs.Prelude.{None, Some}
+use Rattle.macro_code.specs.Code.{arguments_in, call_in}
 use Rattle.macro_values.specs.declared.Written.{Written}
 use Rattle.macro_values.specs.WritingLaws.{lower-assoc}
 use Rattle.macro_values.specs.Wrote.{is_over, size_of, Wrote}
@@ -100,3 +101,12 @@ remembers-none s c f n m x v e = record { absorbed = λ k z. absurd (z (free m k
     free zero k = refl
     free (suc m) zero = e
     free (suc m) (suc k) = free m k
+
+-- only the calls around are looked at
+pub arguments-like : (s c calls others : List ℕ) (d : ℕ) → ((j : ℕ) → j < d → get_or others j 0 ≡ get_or calls j 0) → arguments_in s c others d ≡ arguments_in s c calls d
+unfolding arguments_in
+arguments-like s c calls others zero e = refl
+arguments-like s c calls others (suc d) e =
+    let a : arguments_in s c others d ≡ arguments_in s c calls d = arguments-like s c calls others d (λ j l. e j (omega (arith, l))) in
+    let g : get_or others d 0 ≡ get_or calls d 0 = e d (omega arith) in
+    λ i. map (filled_in (a i)) (call_in s c (g i)).args

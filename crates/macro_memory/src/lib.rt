@@ -1,7 +1,7 @@
 // Calls that change nothing any more, remembered beside the cells of the nested calls.
 #![tactic(auto)]
 
-ghost use Rattle.std.specs.Prelude.{◌≡◌, true, List, ℕ, ◌+◌, ◌-◌, ◌≤◌, ◌<◌, get_or};
+ghost use Rattle.std.specs.Prelude.{◌≡◌, true, List, ℕ, ◌+◌, ◌-◌, ◌≤◌, ◌<◌, length, get_or};
 ghost use Rattle.macro_values.specs.declared.Written.{Written};
 ghost use Rattle.macro_code.specs.Bounds.{near, far};
 ghost use Rattle.macro_code.specs.Code.{given_in, arguments_in};
@@ -114,18 +114,29 @@ fn mix(bytes: &[u8], first: usize) -> usize
     h
 }
 
-// A number of a call, by its macro, its levels and as much of its arguments as there is room for.
+// How many bytes of a row are filled: none of them is 0.
+fn filled(row: &[u8]) -> usize
+    ensures { result ≤ length row.now }
+{
+    row.iter().position(|b| *b == 0).unwrap_or(row.len())
+}
+
+// A number of a call, by its macro, its levels and as much of its arguments as there is room for: also of one that runs over, since calls that differ
+// in that one alone would have one number and one group. Only the bytes that are written go into it: zeros behind them would lead calls of one length
+// into few groups.
 fn print_of(here: &Around, at: Entered) -> usize
     requires { Lookable at here.now }
     ensures { result < half }
 {
     let mut row = [0u8; ROOM];
     let mut w = Written::nothing();
-    let mut n = 0;
     for k in 0..here.coded.low(at.cell + CodePlaces::KIND) {
         w = here.write_given(argument_cell(at.cell, k), &mut row, w);
-        n = w.count.unwrap_or(n);
     }
+    let n = match w.count {
+        Some(n) => n,
+        None => filled(&row),
+    };
     mix(&row[..n], at.body * LEVELS + here.depth)
 }
 

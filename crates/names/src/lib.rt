@@ -44,7 +44,10 @@ fn met_before(text: &[u8], before: &[u32], names: &[u32], m: usize) -> Fault
 {
     let at = place_of(m);
     let len = length_of(m);
-    (has_name(text, before, at, len) | has_name(text, names, at, len)).then_some(at)
+    if has_name(text, before, at, len) {
+        return Some(at);
+    }
+    has_name(text, names, at, len).then_some(at)
 }
 
 // Question 06 of some names, which stand behind others.
