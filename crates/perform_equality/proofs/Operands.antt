@@ -41,7 +41,7 @@ use Rattle.perform_moves.specs.Below.Operating.{Carrying, PerformsFor}
 use Rattle.perform_moves.specs.Below.OperatingLaws.{carrying, performs}
 use Rattle.performing.specs.CarryingLaws.{good-itself, formed, first-named, third-none, performed}
 use Rattle.perform_moves.proofs.Operands.{named-of, no_others, unread}
-use Rattle.perform_equality.specs.Equating.{any_letter, IsAny, RelatingExpression}
+use Rattle.perform_equality.specs.Equating.{any_letter, IsAny}
 
 -- ---- the second argument
 
@@ -74,51 +74,52 @@ forms {c} {k} {x} {y} {z} r = go (shapes r ("ABT", "nN", "-") ("ABTI", "tcBT", "
 
 -- ---- RW of an expression
 
-module _ {c : List ℕ} {σ : State} {x y z : Argument} (w : RelatingExpression c σ x y z) where
+-- its first argument
+module _ {x : Argument} (n : Named (bytes "ABT") x) {r : Bool} (a : IsAny x r) where
+  renamed : (fs : List ℕ) → T (among (letter_code (letter_of a.letter)) fs) → Named fs x
+  renamed fs h =
+      record {
+        lettered = record { letter = a.letter; index = a.index; is = a.is; good = good_of a.letter a.index n.lettered a.is };
+        listed = h;
+      }
+
+  any-named : r ≡ true → Named (bytes "T") x
+  any-named q = renamed (bytes "T") (go (any_letter a.letter) (sym a.any ∙ q))
+    where
+      go : (b : Bool) → b ≡ true → T (b || false)
+      go b q = rw q tt
+
+  pub one-named : r ≡ false → Named (bytes "AB") x
+  one-named q =
+      let k = letter_code (letter_of a.letter) in
+      renamed (bytes "AB") (go (eqb k 65) (eqb k 66) (eqb k 84) (sym a.any ∙ q) (listed_of a.letter a.index n a.is))
+    where
+      go : (b d f : Bool) → f ≡ false → T (b || (d || (f || false))) → T (b || (d || false))
+      go b d f q t = rw q at t
+
+module _ {c : List ℕ} {σ : State} {x y z : Argument} (w : Carrying c σ RW x y z) where
   relation : RelationForms c x y z
-  relation = forms w.carrying.read
+  relation = forms w.read
 
-  module _ {r : Bool} (a : IsAny x r) where
-    renamed : (fs : List ℕ) → T (among (letter_code (letter_of a.letter)) fs) → Named fs x
-    renamed fs h =
-        record {
-          lettered = record { letter = a.letter; index = a.index; is = a.is; good = good_of a.letter a.index w.expression.lettered a.is };
-          listed = h;
-        }
+  -- any component
+  module _ (n : Named (bytes "ABT") x) {r : Bool} (a : IsAny x r) (q : r ≡ true) {i : ℕ} (at : IsIndex x i) where
+    pub any-relatable : Relatable c i y
+    any-relatable = record { other = holdable w relation.second; source = indexed-below letters.Letter.T (any-named n a q) at }
 
-    pub any-named : r ≡ true → Named (bytes "T") x
-    any-named q = renamed (bytes "T") (go (any_letter a.letter) (sym a.any ∙ q))
-      where
-        go : (b : Bool) → b ≡ true → T (b || false)
-        go b q = rw q tt
-
-    pub one-named : r ≡ false → Named (bytes "AB") x
-    one-named q =
-        let k = letter_code (letter_of a.letter) in
-        renamed (bytes "AB") (go (eqb k 65) (eqb k 66) (eqb k 84) (sym a.any ∙ q) (listed_of a.letter a.index w.expression a.is))
-      where
-        go : (b d f : Bool) → f ≡ false → T (b || (d || (f || false))) → T (b || (d || false))
-        go b d f q t = rw q at t
-
-    -- any component
-    module _ (q : r ≡ true) {i : ℕ} (at : IsIndex x i) where
-      pub any-relatable : Relatable c i y
-      any-relatable = record { other = holdable w.carrying relation.second; source = indexed-below letters.Letter.T (any-named q) at }
-
-      pub any-related : {told : ℕ} {σ' : State}
-          → DoesFor σ told σ' (λ g ins. row g ins σ.store (nth letters.Letter.T i) (arg_of (table_of c) y) nothing RW)
-          → PerformsFor c σ told σ'
-      any-related h = performed w.carrying (indexed-is letters.Letter.T (any-named q) at (table_of c)) refl relation.none h
+    pub any-related : {told : ℕ} {σ' : State}
+        → DoesFor σ told σ' (λ g ins. row g ins σ.store (nth letters.Letter.T i) (arg_of (table_of c) y) nothing RW)
+        → PerformsFor c σ told σ'
+    any-related h = performed w (indexed-is letters.Letter.T (any-named n a q) at (table_of c)) refl relation.none h
 
   -- the first
   module _ {s : Source} (from : IsSource x s) where
     pub one-relatable : Relatable c s.i y
-    one-relatable = record { other = holdable w.carrying relation.second; source = from.below }
+    one-relatable = record { other = holdable w relation.second; source = from.below }
 
     pub one-related : {told : ℕ} {σ' : State}
         → DoesFor σ told σ' (λ g ins. row g ins σ.store (nth (reading s.removes) s.i) (arg_of (table_of c) y) nothing RW)
         → PerformsFor c σ told σ'
-    one-related h = performed w.carrying (from.is (table_of c)) refl relation.none h
+    one-related h = performed w (from.is (table_of c)) refl relation.none h
 
 -- ---- RZ
 
@@ -164,5 +165,5 @@ module _ {c i j : List ℕ} {σ : State} {x y z : Argument} (w : Performing c i 
         (forms w.read).none i j (h (program_of c))
 
   -- of an expression
-  pub expression-relating : {v : Variable} → IsVariable x v → v ≡ Expression → RelatingExpression c σ x y z
-  expression-relating which q = record { carrying = carrying w; expression = named-of (bytes "ABTI") related-named which (bytes "ABT") Expression tt q }
+  pub related-expression : {v : Variable} → IsVariable x v → v ≡ Expression → Named (bytes "ABT") x
+  related-expression which q = named-of (bytes "ABTI") related-named which (bytes "ABT") Expression tt q

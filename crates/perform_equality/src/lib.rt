@@ -1,4 +1,4 @@
-// The relations of equality from an instruction's arguments: RW and RZ.
+// The relations of equality from the arguments of instruction `i`: RW and RZ.
 #![tactic(auto)]
 
 ghost use Rattle.std.specs.Prelude.{◌≡◌};
@@ -6,13 +6,14 @@ ghost use Rattle.decoding.specs.Operands.{Lettered};
 ghost use Rattle.language.specs.Operators.{op_by};
 ghost use Rattle.language.specs.Program.Op.{RW, RZ};
 ghost use Rattle.instructions.specs.Questions.{told_by};
-ghost use Rattle.performing.specs.Performing.{Performing, Performs};
-ghost use Rattle.performing.specs.Operating.{Carrying, PerformsFor};
+ghost use Rattle.performing.specs.Performing.{Performs};
+ghost use Rattle.performing.specs.Operating.{PerformsFor};
+ghost use Rattle.performing.specs.Places.{CarryingAt, PerformingAt};
 ghost use Rattle.perform_equality.specs.Equating.{any_letter, IsAny, RelatingExpression, Equating};
 
 use instructions::{Bench, Question, Task};
 use language::Operator;
-use table::{Instruction, Table};
+use table::Table;
 
 // Whether a letter, an argument stands for any component (T).
 fn any_letter(l: table::Letter) -> bool
@@ -31,56 +32,64 @@ fn is_any(a: table::Argument) -> bool
     }
 }
 
-// RW of an expression.
+// RW of an expression; x is the first argument.
 fn relate_expression(
     table: Table,
     bench: &mut Bench,
-    instruction: Instruction,
+    i: usize,
+    x: table::Argument,
 ) -> Result<(), Question>
-    requires { RelatingExpression table.cells.now bench.old.state instruction.x instruction.y instruction.z }
+    requires { RelatingExpression table.cells.now bench.old.state i x }
     ensures { PerformsFor table.entry.cells.now bench.old.state (told_by result) bench.new.state }
 {
-    if is_any(instruction.x) {
-        let i = decoding::index_of(instruction.x);
-        return equality::rw_any(table, bench, i, instruction.y);
+    if is_any(x) {
+        let index = decoding::index_of(x);
+        return equality::rw_any(table, bench, index, table.second(i));
     }
-    let source = decoding::source_of(instruction.x);
-    equality::rw_one(table, bench, source, instruction.y)
+    let source = decoding::source_of(x);
+    equality::rw_one(table, bench, source, table.second(i))
 }
 
 // RW, of an expression or an input.
-fn relate(task: Task, bench: &mut Bench, instruction: Instruction) -> Result<(), Question>
-    requires { Performing task.table.cells.now task.first.now task.second.now bench.old.state RW instruction.x instruction.y instruction.z }
+fn relate(task: Task, bench: &mut Bench, i: usize) -> Result<(), Question>
+    requires { PerformingAt task.table.cells.now task.first.now task.second.now bench.old.state RW i }
     ensures { Performs task.entry.table.cells.now task.entry.first.now task.entry.second.now bench.old.state (told_by result) bench.new.state }
 {
-    let i = decoding::index_of(instruction.x);
-    match decoding::variable_of(instruction.x) {
-        decoding::Variable::Input => input_equality::rw_input(task, bench, i, instruction.y),
-        decoding::Variable::Expression => relate_expression(task.table, bench, instruction),
+    let x = task.table.first(i);
+    let index = decoding::index_of(x);
+    match decoding::variable_of(x) {
+        decoding::Variable::Input => input_equality::rw_input(
+            task,
+            bench,
+            index,
+            task.table.second(i),
+        ),
+        decoding::Variable::Expression => relate_expression(task.table, bench, i, x),
         _ => unreachable!(),
     }
 }
 
 // RZ.
-fn relate_record(table: Table, bench: &mut Bench, instruction: Instruction) -> Result<(), Question>
-    requires { Carrying table.cells.now bench.old.state RZ instruction.x instruction.y instruction.z }
+fn relate_record(table: Table, bench: &mut Bench, i: usize) -> Result<(), Question>
+    requires { CarryingAt table.cells.now bench.old.state RZ i }
     ensures { PerformsFor table.entry.cells.now bench.old.state (told_by result) bench.new.state }
 {
-    let i = decoding::index_of(instruction.x);
-    record_equality::rz(table, bench, i, instruction.y)
+    let index = decoding::index_of(table.first(i));
+    record_equality::rz(table, bench, index, table.second(i))
 }
 
 pub fn perform_equality(
     task: Task,
     bench: &mut Bench,
-    instruction: Instruction,
+    op: Operator,
+    i: usize,
 ) -> Result<(), Question>
-    requires { Equating task.table.cells.now task.first.now task.second.now bench.old.state (op_by instruction.op) instruction.x instruction.y instruction.z }
+    requires { Equating task.table.cells.now task.first.now task.second.now bench.old.state (op_by op) i }
     ensures { Performs task.entry.table.cells.now task.entry.first.now task.entry.second.now bench.old.state (told_by result) bench.new.state }
 {
-    match instruction.op {
-        Operator::RW => relate(task, bench, instruction),
-        Operator::RZ => relate_record(task.table, bench, instruction),
+    match op {
+        Operator::RW => relate(task, bench, i),
+        Operator::RZ => relate_record(task.table, bench, i),
         _ => unreachable!(),
     }
 }

@@ -47,6 +47,7 @@ use Rattle.performing.specs.Stepping.{inputs}
 use Rattle.performing.specs.Performing.{Performing, Performs}
 use Rattle.performing.specs.Operating.{Carrying, PerformsFor}
 use Rattle.performing.specs.OperatingLaws.{carrying, performs}
+use Rattle.performing.specs.Places.{CarryingAt, PerformingAt}
 use Rattle.performing.specs.CarryingLaws.{good-itself, formed, first-named, second-named, third-none, performed}
 
 -- ---- what all of them share
@@ -263,8 +264,8 @@ module _ {c i j : List ℕ} {σ : State} {x y z : Argument} (w : Performing c i 
 -- ---- the arms of the dispatcher
 
 -- the same instruction, its operator known
-pub carrying-by : {c i j : List ℕ} {σ : State} {o k : Operator} {x y z : Argument} → Performing c i j σ (op_by o) x y z → o ≡ k → Carrying c σ (op_by k) x y z
-carrying-by {c} {σ = σ} {x = x} {y = y} {z = z} w q = subst (λ (m : Operator). Carrying c σ (op_by m) x y z) q (carrying w)
+pub carrying-by : {c i j : List ℕ} {σ : State} {o k : Operator} {n : ℕ} → PerformingAt c i j σ (op_by o) n → o ≡ k → CarryingAt c σ (op_by k) n
+carrying-by {c} {σ = σ} {n = n} w q = subst (λ (m : Operator). CarryingAt c σ (op_by m) n) q w.carrying
 
 -- what is promised for any inputs, of these two
 pub for_inputs : (c i j : List ℕ) {σ : State} {told : ℕ} {σ' : State} → PerformsFor c σ told σ' → Performs c i j σ told σ'

@@ -5,14 +5,13 @@ use Rattle.language.specs.Instructions.{number_of}
 use Rattle.language.specs.Program.{Op}
 use Rattle.language.specs.Program.Op.{PRZESLIJ, CZYTAJ, PISZ, USUN, ZBIJ, ROZBIJ, SZUKAJ}
 use Rattle.language.specs.Values.{State}
-use Rattle.table.specs.declared.Argument.{Argument}
-use Rattle.performing.specs.Performing.{Performing}
+use Rattle.performing.specs.Places.{PerformingAt}
 
 -- the numbers of their operators
 abbrev pub movers : List ℕ
 movers = number_of PRZESLIJ ∷ number_of CZYTAJ ∷ number_of PISZ ∷ number_of USUN ∷ number_of ZBIJ ∷ number_of ROZBIJ ∷ number_of SZUKAJ ∷ []
 
--- any of them
-pub record Moving (c i j : List ℕ) (σ : State) (op : Op) (x y z : Argument) : Type 0 where
-  pub performing : Performing c i j σ op x y z
+-- any of them, in place k
+pub record Moving (c i j : List ℕ) (σ : State) (op : Op) (k : ℕ) : Type 0 where
+  pub performing : PerformingAt c i j σ op k
   pub mover : T (among (number_of op) movers)

@@ -5,8 +5,7 @@ use Rattle.language.specs.Instructions.{number_of}
 use Rattle.language.specs.Program.{Op}
 use Rattle.language.specs.Program.Op.{WK, MN, PP, NS, DODAJ, ODEJMIJ, MNOZ, DZIEL, SLOWO, LICZBA}
 use Rattle.language.specs.Values.{State}
-use Rattle.table.specs.declared.Argument.{Argument}
-use Rattle.performing.specs.Operating.{Carrying}
+use Rattle.performing.specs.Places.{CarryingAt}
 
 -- WK, MN, PP and NS; DODAJ, ODEJMIJ, MNOZ, DZIEL, SLOWO and LICZBA
 abbrev pub value_operators : List ℕ
@@ -14,6 +13,7 @@ value_operators =
     number_of WK ∷ number_of MN ∷ number_of PP ∷ number_of NS
     ∷ number_of DODAJ ∷ number_of ODEJMIJ ∷ number_of MNOZ ∷ number_of DZIEL ∷ number_of SLOWO ∷ number_of LICZBA ∷ []
 
-pub record Valuing (c : List ℕ) (σ : State) (op : Op) (x y z : Argument) : Type 0 where
-  pub carrying : Carrying c σ op x y z
+-- any of them, in place i
+pub record Valuing (c : List ℕ) (σ : State) (op : Op) (i : ℕ) : Type 0 where
+  pub carrying : CarryingAt c σ op i
   pub one_of : T (among (number_of op) value_operators)

@@ -1,4 +1,4 @@
-// The instructions of numbers and words, from their arguments.
+// The instructions of numbers and words, from the arguments of instruction `i`.
 #![tactic(auto)]
 
 ghost use Rattle.language.specs.Operators.{op_by};
@@ -10,34 +10,52 @@ use arithmetic::Computed;
 use instructions::{Bench, Question};
 use language::Operator;
 use ordering::Order;
-use table::{Instruction, Table};
+use table::Table;
 
 // The instruction of an operator.
 pub fn perform_value(
     table: Table,
     bench: &mut Bench,
-    instruction: Instruction,
+    op: Operator,
+    i: usize,
 ) -> Result<(), Question>
-    requires { Valuing table.cells.now bench.old.state (op_by instruction.op) instruction.x instruction.y instruction.z }
+    requires { Valuing table.cells.now bench.old.state (op_by op) i }
     ensures { PerformsFor table.entry.cells.now bench.old.state (told_by result) bench.new.state }
 {
-    let i = decoding::index_of(instruction.x);
-    match instruction.op {
-        Operator::WK => ordering::compare_numbers(&mut bench.state, i, instruction.y, Order::After),
+    let x = table.first(i);
+    let index = decoding::index_of(x);
+    match op {
+        Operator::WK => ordering::compare_numbers(
+            &mut bench.state,
+            index,
+            table.second(i),
+            Order::After,
+        ),
         Operator::MN => ordering::compare_numbers(
             &mut bench.state,
-            i,
-            instruction.y,
+            index,
+            table.second(i),
             Order::Before,
         ),
-        Operator::PP => ordering::compare_words(table, bench, i, instruction.y, Order::Before),
-        Operator::NS => ordering::compare_words(table, bench, i, instruction.y, Order::After),
-        Operator::DODAJ => arithmetic::compute(bench, i, instruction.y, Computed::Sum),
-        Operator::ODEJMIJ => arithmetic::compute(bench, i, instruction.y, Computed::Difference),
-        Operator::MNOZ => arithmetic::compute(bench, i, instruction.y, Computed::Product),
-        Operator::DZIEL => arithmetic::dziel(bench, i, instruction.y),
-        Operator::SLOWO => converting::slowo(bench, decoding::source_of(instruction.x)),
-        Operator::LICZBA => converting::liczba(bench, decoding::source_of(instruction.x)),
+        Operator::PP => ordering::compare_words(
+            table,
+            bench,
+            index,
+            table.second(i),
+            Order::Before,
+        ),
+        Operator::NS => ordering::compare_words(table, bench, index, table.second(i), Order::After),
+        Operator::DODAJ => arithmetic::compute(bench, index, table.second(i), Computed::Sum),
+        Operator::ODEJMIJ => arithmetic::compute(
+            bench,
+            index,
+            table.second(i),
+            Computed::Difference,
+        ),
+        Operator::MNOZ => arithmetic::compute(bench, index, table.second(i), Computed::Product),
+        Operator::DZIEL => arithmetic::dziel(bench, index, table.second(i)),
+        Operator::SLOWO => converting::slowo(bench, decoding::source_of(x)),
+        Operator::LICZBA => converting::liczba(bench, decoding::source_of(x)),
         _ => unreachable!(),
     }
 }

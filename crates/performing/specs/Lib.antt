@@ -5,3 +5,5 @@ pub mod PerformingLaws
 pub mod Operating
 pub mod OperatingLaws
 pub mod CarryingLaws
+pub mod Places
+pub mod PlaceLaws

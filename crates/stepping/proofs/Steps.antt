@@ -6,7 +6,6 @@ use Prim.Native.Nat.{ℕ, suc, ◌<◌}
 use native.Mathlib.Omega.{arith}
 use lib.Dec.{T}
 use lib.ListN.{length}
-use Rattle.language.specs.Instructions.{number_of}
 use Rattle.language.specs.Limits as limit
 use Rattle.language.specs.Operators.{op_by}
 use Rattle.language.specs.Program.{Op}
@@ -19,18 +18,16 @@ use Rattle.layout.specs.Table.{program_of}
 use Rattle.layout.proofs.TableLaws.{table-facts}
 use Rattle.control.specs.Going.{going}
 use Rattle.packed.specs.Packed.{table_of}
-use Rattle.decoding.specs.Operands.{Read}
-use Rattle.decoding.specs.OperandLaws.{read_all}
 use Rattle.state.specs.Working.{HoldsState}
 use Rattle.table.specs.GoodLaws.{good-instruction}
 use Rattle.table.specs.Reads.{operator_number, Operated, IsInstruction}
-use Rattle.table.specs.declared.Argument.{Argument}
 use Rattle.table.specs.declared.Instruction.{Instruction}
 use Rattle.perform_jumps.specs.Below.Stepping.{inputs, Steppable, Stepped}
-use Rattle.perform_jumps.specs.Below.Performing.{leads, Performing, Performs}
+use Rattle.perform_jumps.specs.Below.Performing.{leads, Performs}
 use Rattle.perform_jumps.specs.Below.PerformingLaws.{stepped, stepped-stop, following, stepped-on, row_on, has-next}
 use Rattle.perform_jumps.specs.Below.Operating.{LeadsFor}
-use Rattle.perform_jumps.specs.Below.OperatingLaws.{carrying}
+use Rattle.perform_jumps.specs.Below.Places.{CarryingAt}
+use Rattle.perform_jumps.specs.Below.PlaceLaws.{performing-none}
 use Rattle.perform_jumps.specs.Jumping.{Jumping}
 use Rattle.stepping.specs.Orders.{GoingOn}
 
@@ -57,32 +54,28 @@ module _ {c i j : List ℕ} {σ : State} {k : ℕ} (w : Steppable c i j σ) (q :
       }
 
   module _ {r : Instruction} (s : IsInstruction (table_of c) k r) where
-    performing : Performing c i j σ (op_by r.op) r.x r.y r.z
-    performing =
-        record {
-          ready = w;
-          read = subst (λ (m : ℕ). Read c m (number_of (op_by r.op)) r.x r.y r.z) q (read_all c w.table k code_in s.number s.first s.second s.third);
-        }
+    carrying : CarryingAt c σ (op_by r.op) k
+    carrying = record { table = w.table; place = operated.place; inside = code_in; next = q; instruction = r; is = s; operator = refl }
 
     module _ {b : Bool} (e : b ≡ leads (op_by r.op)) where
-      pub jumping : b ≡ true → Jumping c σ (op_by r.op) r.x r.y r.z
-      jumping t = record { carrying = carrying performing; leads = is_true e t }
+      pub jumping : b ≡ true → Jumping c σ (op_by r.op) k
+      jumping t = record { carrying = carrying; leads = is_true e t }
 
-      pub going_on : b ≡ false → GoingOn c i j σ (op_by r.op) r.x r.y r.z
-      going_on f = record { performing = performing; on = is_false e f }
+      pub going_on : b ≡ false → GoingOn c i j σ (op_by r.op) k
+      going_on f = record { performing = record { ready = w; carrying = carrying }; on = is_false e f }
 
 -- ---- carried out
 
 pub jumped : {c i j : List ℕ} {σ : State} {told : ℕ} {σ' : State} → LeadsFor c σ told σ' → Stepped c i j σ told σ'
 jumped {c} {i} {j} {σ} h = stepped c i j σ (h i j)
 
-module _ {c i j : List ℕ} {σ : State} {op : Op} {x y z : Argument} (w : GoingOn c i j σ op x y z) {told : ℕ} {σ' : State} (h : Performs c i j σ told σ') where
+module _ {c i j : List ℕ} {σ : State} {op : Op} {k : ℕ} (w : GoingOn c i j σ op k) {told : ℕ} {σ' : State} (h : Performs c i j σ told σ') where
   pub stopped : (told ≡ 0 → ⊥) → Stepped c i j σ told σ'
   stopped n = stepped-stop c i j σ h n
 
   module _ (e : told ≡ 0) where
     pub follows : suc σ'.next < limit.instructions
-    follows = following c i j σ h e (has-next w.performing w.on)
+    follows = following c i j σ h e (has-next (performing-none w.performing) w.on)
 
     pub followed : {σ'' : State} → HoldsState σ'' (going on σ') → Stepped c i j σ 0 σ''
-    followed {σ''} g = subst (λ (t : ℕ). Stepped c i j σ t σ'') e (stepped-on c i j σ h e (row_on w.performing w.on) g)
+    followed {σ''} g = subst (λ (t : ℕ). Stepped c i j σ t σ'') e (stepped-on c i j σ h e (row_on (performing-none w.performing) w.on) g)

@@ -11,7 +11,6 @@ ghost use Rattle.stepping.specs.Orders.{GoingOn};
 use instructions::{Bench, Question, Task};
 use language::Operator;
 use perform_equality::from_perform_moves;
-use table::Instruction;
 
 // Whether an operator is a jump, call or return, or STOP.
 // The family is named here as the others are in `perform`; what each of its operators does is matched in `perform_jumps` alone.
@@ -35,21 +34,21 @@ fn leading(op: Operator) -> bool
     )
 }
 
-// Carries out an instruction that always goes on to the following one, but for the step to that one.
+// Carries out instruction `i`, which always goes on to the following one, but for the step to that one.
 // Inlined into `step`, its only caller: that is faster by a tenth.
 #[inline(always)]
-fn perform(task: Task, bench: &mut Bench, instruction: Instruction) -> Result<(), Question>
-    requires { GoingOn task.table.cells.now task.first.now task.second.now bench.old.state (op_by instruction.op) instruction.x instruction.y instruction.z }
+fn perform(task: Task, bench: &mut Bench, op: Operator, i: usize) -> Result<(), Question>
+    requires { GoingOn task.table.cells.now task.first.now task.second.now bench.old.state (op_by op) i }
     ensures { Performs task.entry.table.cells.now task.entry.first.now task.entry.second.now bench.old.state (told_by result) bench.new.state }
 {
-    match instruction.op {
+    match op {
         Operator::PRZESLIJ
         | Operator::CZYTAJ
         | Operator::PISZ
         | Operator::USUN
         | Operator::ZBIJ
         | Operator::ROZBIJ
-        | Operator::SZUKAJ => from_perform_moves::perform_move(task, bench, instruction),
+        | Operator::SZUKAJ => from_perform_moves::perform_move(task, bench, op, i),
         Operator::WK
         | Operator::MN
         | Operator::PP
@@ -59,8 +58,8 @@ fn perform(task: Task, bench: &mut Bench, instruction: Instruction) -> Result<()
         | Operator::MNOZ
         | Operator::DZIEL
         | Operator::SLOWO
-        | Operator::LICZBA => perform_values::perform_value(task.table, bench, instruction),
-        Operator::RW | Operator::RZ => perform_equality::perform_equality(task, bench, instruction),
+        | Operator::LICZBA => perform_values::perform_value(task.table, bench, op, i),
+        Operator::RW | Operator::RZ => perform_equality::perform_equality(task, bench, op, i),
         Operator::KOPIUJ
         | Operator::WSTAW
         | Operator::POBIERZ
@@ -70,7 +69,7 @@ fn perform(task: Task, bench: &mut Bench, instruction: Instruction) -> Result<()
         | Operator::UMIESC
         | Operator::SKRESL
         | Operator::OMIN
-        | Operator::COFNIJ => perform_files::perform_file(task.table, bench, instruction),
+        | Operator::COFNIJ => perform_files::perform_file(task.table, bench, op, i),
         _ => unreachable!(),
     }
 }
@@ -85,9 +84,9 @@ pub fn step(task: Task, bench: &mut Bench) -> Result<(), Question>
     let i = bench.state.next_instruction();
     let instruction = task.table.instruction_at(i);
     if leading(instruction.op) {
-        return perform_jumps::perform_jump(task.table, &mut bench.state, instruction);
+        return perform_jumps::perform_jump(task.table, &mut bench.state, instruction.op, i);
     }
-    perform(task, bench, instruction)?;
+    perform(task, bench, instruction.op, i)?;
     control::go_on(&mut bench.state);
     Ok(())
 }

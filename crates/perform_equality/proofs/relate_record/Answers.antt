@@ -1,12 +1,13 @@
 -- `perform_equality::relate_record` meets its contract.
+use Rattle.performing.specs.PlaceLaws.{read-one, read-two}
 use Rattle.perform_equality.proofs.Operands.{record-named, record-relatable, record-related}
 use Rattle.perform_equality.proofs.relate_record.Goals as goal
 
-pub index_of-i-requires : goal.index_of-i-requires
-index_of-i-requires c = (record-named c.requires).lettered
+pub index_of-index-requires : goal.index_of-index-requires
+index_of-index-requires c = (record-named (read-one c.requires c.first.ensures)).lettered
 
 pub rz-requires : goal.rz-requires
-rz-requires c = record-relatable c.requires c.index_of-i.ensures
+rz-requires c = record-relatable (read-two c.requires c.first.ensures c.second.ensures) c.index_of-index.ensures
 
 pub returns : goal.returns
-returns c = record-related c.requires c.index_of-i.ensures c.rz.ensures
+returns c = record-related (read-two c.requires c.first.ensures c.second.ensures) c.index_of-index.ensures c.rz.ensures

@@ -3,20 +3,21 @@ use mathlib.Core.Path.{refl}
 use Rattle.language.specs.Letters as letters
 use Rattle.decoding.specs.OperandLaws.{indexed-is, indexed-below}
 use Rattle.perform_pointers.specs.Below.CarryingLaws.{formed, first-named, third-none, performed}
+use Rattle.perform_pointers.specs.Below.PlaceLaws.{read-one, read-two}
 use Rattle.perform_files.proofs.Operands.{removable}
 use Rattle.perform_files.proofs.do_omin.Goals as goal
 
-pub index_of-i-requires : goal.index_of-i-requires
-index_of-i-requires c = (first-named c.requires ("P", "-nNtBTE", "-") refl tt).lettered
+pub index_of-index-requires : goal.index_of-index-requires
+index_of-index-requires c = (first-named (read-one c.requires c.first.ensures) ("P", "-nNtBTE", "-") refl tt).lettered
 
 pub omin-requires : goal.omin-requires
 omin-requires c =
-    let w = c.requires in
+    let w = read-two c.requires c.first.ensures c.second.ensures in
     removable w w.read.second (formed w ("P", "-nNtBTE", "-") refl).second
-    (indexed-below letters.Letter.P (first-named w ("P", "-nNtBTE", "-") refl tt) c.index_of-i.ensures)
+    (indexed-below letters.Letter.P (first-named w ("P", "-nNtBTE", "-") refl tt) c.index_of-index.ensures)
 
 pub returns : goal.returns
 returns c =
-    let w = c.requires in
-    performed w (indexed-is letters.Letter.P (first-named w ("P", "-nNtBTE", "-") refl tt) c.index_of-i.ensures _) refl
+    let w = read-two c.requires c.first.ensures c.second.ensures in
+    performed w (indexed-is letters.Letter.P (first-named w ("P", "-nNtBTE", "-") refl tt) c.index_of-index.ensures _) refl
     (third-none w "P" "-nNtBTE" refl) c.omin.ensures

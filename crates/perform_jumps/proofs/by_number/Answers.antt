@@ -1,19 +1,22 @@
 -- `perform_jumps::by_number` meets its contract.
+use Rattle.performing.specs.PlaceLaws.{read-one, read-two}
 use Rattle.perform_jumps.proofs.Operands.{by-index, index-goes, switching, switch-led}
 use Rattle.perform_jumps.proofs.by_number.Goals as goal
 
 pub source_of-source-requires : goal.source_of-source-requires
-source_of-source-requires c = (by-index c.args.way c.requires).source
+source_of-source-requires c = (by-index c.args.way (read-one c.requires c.first.ensures)).source
 
 pub switch_of-switch-requires : goal.switch_of-switch-requires
-switch_of-switch-requires c = (by-index c.args.way c.requires).switch.switched
+switch_of-switch-requires c = (by-index c.args.way (read-two c.requires c.first.ensures c.second.ensures)).switch.switched
 
 pub by_number-requires : goal.by_number-requires
 by_number-requires c =
-    let s = by-index c.args.way c.requires in
-    switching c.requires s.switch s.none c.source_of-source.ensures c.switch_of-switch.ensures (index-goes c.args.way)
+    let w = read-two c.requires c.first.ensures c.second.ensures in
+    let s = by-index c.args.way w in
+    switching w s.switch s.none c.source_of-source.ensures c.switch_of-switch.ensures (index-goes c.args.way)
 
 pub returns : goal.returns
 returns c =
-    let s = by-index c.args.way c.requires in
-    switch-led c.requires s.switch s.none c.source_of-source.ensures c.switch_of-switch.ensures c.by_number.ensures
+    let w = read-two c.requires c.first.ensures c.second.ensures in
+    let s = by-index c.args.way w in
+    switch-led w s.switch s.none c.source_of-source.ensures c.switch_of-switch.ensures c.by_number.ensures

@@ -7,7 +7,6 @@ use Rattle.lists.specs.Lists.{among}
 use Rattle.language.specs.Instructions.{number_of}
 use Rattle.language.specs.Operators.{op_by}
 use Rattle.language.specs.declared.Operator.{Operator}
-use Rattle.perform_jumps.specs.Below.OperatingLaws.{carrying}
 use Rattle.perform_values.specs.Valuing.{value_operators}
 use Rattle.perform_equality.specs.Below.Moving.{movers}
 use Rattle.perform_equality.specs.Equating.{equality_operators}
@@ -47,14 +46,14 @@ perform_move-requires c =
 
 pub perform_value-requires : goal.perform_value-requires
 perform_value-requires c =
-    record { carrying = carrying c.requires.performing; one_of = ten Value tt tt tt tt tt tt tt tt tt tt c.in-WK.is }
+    record { carrying = c.requires.performing.carrying; one_of = ten Value tt tt tt tt tt tt tt tt tt tt c.in-WK.is }
 
 pub perform_equality-requires : goal.perform_equality-requires
 perform_equality-requires c = record { performing = c.requires.performing; one_of = either Equal tt (last Equal tt) c.in-RW.is }
 
 pub perform_file-requires : goal.perform_file-requires
 perform_file-requires c =
-    record { carrying = carrying c.requires.performing; one_of = ten File tt tt tt tt tt tt tt tt tt tt c.in-KOPIUJ.is }
+    record { carrying = c.requires.performing.carrying; one_of = ten File tt tt tt tt tt tt tt tt tt tt c.in-KOPIUJ.is }
 
 pub returns-in-WK : goal.returns-in-WK
 returns-in-WK c = c.perform_value.ensures c.args.task.first.now c.args.task.second.now
