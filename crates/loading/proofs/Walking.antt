@@ -12,7 +12,6 @@ use Rattle.finishing.specs.Below.Progress.{Begun}
 use Rattle.finishing.specs.Below.ProgressLaws.{before-after}
 use Rattle.finishing.specs.Below.ProgressTypeProgress.{Progress}
 use Rattle.reading_statements.specs.ReadingStatements.{Read, read_verdict, Standing, ReadsStatement}
-use Rattle.reading_statements.specs.declared.Answer.{Answer}
 use Rattle.statements.specs.declared.Refusal.{Refusal}
 use Rattle.std.specs.Prelude.{Ok, Err, Option, None, Some}
 use Rattle.statements.specs.StatementAt.{statements_at, statement_at}
@@ -74,10 +73,7 @@ module _ {s lines c₀ : List ℕ} {next : Option ℕ} {g : Progress} {ms c sw e
 
 -- the statement at n is read
 module _ {s lines c₀ : List ℕ} {n : ℕ} {g : Progress} {ms c sw en : List ℕ} (u : Going s lines c₀ n g ms c sw en) where
-  module _ {a : Answer} {ms' c' sw' en' : List ℕ} (k : ReadsStatement s lines n g ms c sw en a ms' c' sw' en') where
-    abbrev r : Read
-    r = a.read
-
+  module _ {r : Read} {next : Option ℕ} {ms' c' sw' en' : List ℕ} (k : ReadsStatement s lines n g ms c sw en r next ms' c' sw' en') where
     abbrev here : List Item
     here = statement_at s n
 
@@ -101,7 +97,7 @@ module _ {s lines c₀ : List ℕ} {n : ℕ} {g : Progress} {ms c sw en : List �
           beyond = k.beyond ∙ u.beyond;
         }
 
-    next-beyond : {j : ℕ} → Some j ≡ a.next → (n < j) × (j ≤ length s)
+    next-beyond : {j : ℕ} → Some j ≡ next → (n < j) × (j ≤ length s)
     next-beyond t = let i = next-by k.ends.last k.ends.next (t ∙ k.ends.is) in (rw i.1 (k.ends.ended.more i.0), rw i.1 k.ends.ended.most)
 
     module _ (q : Progress) (e : r ≡ Ok q) where
@@ -109,7 +105,7 @@ module _ {s lines c₀ : List ℕ} {n : ℕ} {g : Progress} {ms c sw en : List �
       unfolding unless_refused
       after_it = by-verdict ∙ ap (λ x. unless_refused lines (read_verdict x) (load_from lines (last_place s) (draft_after u.draft here) rest_of)) e
 
-      going-last : None ≡ a.next → ReadsText s lines c₀ (Ok q) ms' c' sw' en'
+      going-last : None ≡ next → ReadsText s lines c₀ (Ok q) ms' c' sw' en'
       going-last t =
           record {
             refused = λ f z. absurd (not-read f q (sym z));
@@ -125,7 +121,7 @@ module _ {s lines c₀ : List ℕ} {n : ℕ} {g : Progress} {ms c sw en : List �
           same : {a b : Progress} → ◌≡◌ {A = Read} (Ok a) (Ok b) → a ≡ b
           same e = cc
 
-      going_next : {j : ℕ} → Some j ≡ a.next → Going s lines c₀ j q ms' c' sw' en'
+      going_next : {j : ℕ} → Some j ≡ next → Going s lines c₀ j q ms' c' sw' en'
       going_next {j} t =
           let i = next-by k.ends.last k.ends.next (t ∙ k.ends.is) in
           record {
@@ -141,16 +137,16 @@ module _ {s lines c₀ : List ℕ} {n : ℕ} {g : Progress} {ms c sw en : List �
             beyond = k.beyond ∙ u.beyond;
           }
 
-      pub walks-on : Walks s lines c₀ a.next q ms' c' sw' en'
-      walks-on = go a.next refl
+      pub walks-on : Walks s lines c₀ next q ms' c' sw' en'
+      walks-on = go next refl
         where
-          go : (x : Option ℕ) → x ≡ a.next → Walks s lines c₀ x q ms' c' sw' en'
+          go : (x : Option ℕ) → x ≡ next → Walks s lines c₀ x q ms' c' sw' en'
           go None t = going-last t
           go (Some j) t = going_next t
 
-    pub falls : {x : Option ℕ} → x ≡ Some n → left_of (length s) a.next < left_of (length s) x
-    falls e = subst (λ (x : Option ℕ). left_of (length s) a.next < left_of (length s) x) (sym e) (go a.next refl)
+    pub falls : {x : Option ℕ} → x ≡ Some n → left_of (length s) next < left_of (length s) x
+    falls e = subst (λ (x : Option ℕ). left_of (length s) next < left_of (length s) x) (sym e) (go next refl)
       where
-        go : (x : Option ℕ) → x ≡ a.next → left_of (length s) x < left_of (length s) (Some n)
+        go : (x : Option ℕ) → x ≡ next → left_of (length s) x < left_of (length s) (Some n)
         go None t = omega arith
         go (Some j) t = let e = next-beyond t in omega (arith, e.0, e.1)

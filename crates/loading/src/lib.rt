@@ -43,8 +43,8 @@ fn read_statements(
     let mut p = begin();
     let mut next = Some(0);
     while let Some(n) = next {
-        let a = read_statement(text, lines, n, p, names, table, switches, entries);
-        p = a.read?;
+        let a = read_statement(text, lines, n, &mut p, names, table, switches, entries);
+        a.read?;
         next = a.next;
     }
     Ok(p)

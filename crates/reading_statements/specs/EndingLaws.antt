@@ -29,7 +29,7 @@ use Rattle.reading_statements.specs.Asking.{HeadAsked}
 use Rattle.reading_statements.specs.GatheringLaws.{all_short}
 use Rattle.reading_statements.specs.KindLaws.{worst-whole, neither-asked}
 use Rattle.reading_statements.specs.QuestionLaws.{early-told}
-use Rattle.reading_statements.specs.ReadLaws.{answers, plain, read_as}
+use Rattle.reading_statements.specs.ReadLaws.{plain, read_as}
 use Rattle.reading_statements.specs.ReadingStatements.{Read, Reading, Finishes, ReadsEnding, EndingTold}
 use Rattle.reading_statements.specs.declared.Ending.{Ending}
 
@@ -55,7 +55,7 @@ module _ {s : List ℕ} {h : Head} (no_number : instr_of (head_keyword h) ≡ 0)
         let i = k.judging.headed in
         early-told d (statement_at s n) (asked n d k.judging (whole-rest i) (λ e. first n h.worst i o)) (neither-asked i no_number no_switch) (sym (then-yes (verdict_of u)))
 
-    pub read_ending : {e : Ending} → EndingTold s h r g.section e → {y : Read} → Finishes g h e ms u y → ReadsEnding s g h ms (answers y r.next)
+    pub read_ending : {e : Ending} → EndingTold s h r g.section e → {y : Read} → Finishes g h e ms u y → ReadsEnding s g h ms y r.next
     read_ending t z lines c sw en =
         read_as {F = λ f. f ≡ None} {u = u} early
         (λ n d k b f q.

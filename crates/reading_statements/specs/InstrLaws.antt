@@ -49,7 +49,7 @@ use Rattle.reading_statements.specs.GatheringLaws.{names-kept}
 use Rattle.reading_statements.specs.Judging.{from}
 use Rattle.reading_statements.specs.KindLaws.{there, whole, zero-here, ends-behind, instr-acts, instr-asked}
 use Rattle.reading_statements.specs.QuestionLaws.{early-told, table_faults}
-use Rattle.reading_statements.specs.ReadLaws.{plain, acting, fine-here, labelled, spelt-rest, tables-here, rest-short, answers, read_as}
+use Rattle.reading_statements.specs.ReadLaws.{plain, acting, fine-here, labelled, spelt-rest, tables-here, rest-short, read_as}
 use Rattle.reading_statements.specs.ReadingStatements.{Read, Reading, Finishes, ReadsInstr}
 
 -- what holds of the first b marks holds of those from index a to index b
@@ -170,7 +170,7 @@ module _ {s : List ℕ} {h : Head} {operator : Operator} (is : Some operator ≡
 
     pub read-instr : (w : told.Verdict) {c' : List ℕ}
         → Admits (λ f. DeclaresValues s (record { operator = operator; at = h.op.at; line = line; values = a.values }) (marks_in ms (from g) h.names) c f c') v w c c'
-        → {y : Read} → Finishes g h (unchanged g) ms w y → ReadsInstr s lines g h ms c (answers y a.next) c'
+        → {y : Read} → Finishes g h (unchanged g) ms w y → ReadsInstr s lines g h ms c y a.next c'
     read-instr w t z sw en =
         read_as early-instr (λ n d r b f. instr-last r b is o l f) (λ n d r b. acting r b (instr-acts r.judging.headed (some-number (head_keyword h) is) (above operator refl)))
         (λ n k. ends-behind k (there k (instr-acts k (some-number (head_keyword h) is) (above operator refl))) o.ends) w t z

@@ -42,7 +42,6 @@ use Rattle.reading_statements.specs.Judging.{from}
 use Rattle.reading_statements.specs.KindLaws.{acts, acts-alone, zero-here}
 use Rattle.reading_statements.specs.QuestionLaws.{table_faults, all_told}
 use Rattle.reading_statements.specs.ReadingStatements.{Read, Reading, Reads, Finishes, read_verdict}
-use Rattle.reading_statements.specs.declared.Answer.{Answer}
 use Rattle.reading_statements.specs.declared.Ending.{Ending}
 
 clear-by : (number : ℕ) (f : Fault) → decided number f ≡ yes → f ≡ None
@@ -143,9 +142,6 @@ module _ {s lines : List ℕ} {n : ℕ} {d : Draft} {g : Progress} {h : Head} {m
 
 -- ---- whatever statement it is
 
-abbrev pub answers : Read → Option ℕ → Answer
-answers u next = record { read = u; next = next }
-
 -- u is the verdict of the questions before 11, of whose fault F holds; e is what the statement says of the section
 module _ {s lines : List ℕ} {g : Progress} {h : Head} {ms c sw en c' sw' en' : List ℕ} {e : Ending} {F : Fault → Type 0} {u : told.Verdict}
     (early : (n : ℕ) (d : Draft) → Reading s lines n d g h ms c sw en → first_no (early_questions d (statement_at s n)) ≡ verdict_of u)
@@ -165,7 +161,7 @@ module _ {s lines : List ℕ} {g : Progress} {h : Head} {ms c sw en c' sw' en' :
     tabled-then (Ok tt) q (f, (i, k)) = (last_is n d r (answered _ (early n d r ∙ ap verdict_of q)) f k).1 (clear-by 11 f (sym i))
     tabled-then (Err w) q i = absurd (let y : ◌≡◌ {A = ℕ} 0 1 = cc in omega arith)
 
-  pub read_as : (v : told.Verdict) → Admits F u v c c' → {y : Read} → Finishes g h e ms v y → Reads s lines g h ms c sw en (answers y next) c' sw' en'
+  pub read_as : (v : told.Verdict) → Admits F u v c c' → {y : Read} → Finishes g h e ms v y → Reads s lines g h ms c sw en y next c' sw' en'
   read_as (Err w) t z =
       record {
         told = λ n d r. ap read_verdict z ∙ all-verdict r u refl (Err w) t.asked;

@@ -21,7 +21,6 @@ use Rattle.syntax.specs.Tables.{Draft, draft_after}
 use Rattle.syntax.specs.Verdict.{Verdict, first_no}
 use Rattle.syntax.specs.Verdict.Verdict.{yes, refuse}
 use Rattle.reading_statements.specs.Judging.{Judging}
-use Rattle.reading_statements.specs.declared.Answer.{Answer}
 use Rattle.reading_statements.specs.declared.Ending.{Ending}
 use Rattle.statements.specs.declared.Refusal.{Refusal}
 
@@ -47,13 +46,22 @@ abbrev pub read_verdict : Read → Verdict
 read_verdict (Ok g) = yes
 read_verdict (Err r) = refuse (question_number r.question) r.at
 
+-- what is known after a statement whose verdict is v, where g is left; or its refusal
+abbrev pub read_of : told.Verdict → Progress → Read
+read_of (Ok u) g = Ok g
+read_of (Err r) g = Err r
+
+-- a refusal leaves what was known before as it was
+abbrev pub Stays : told.Verdict → Progress → Progress → Type 0
+Stays v g g' = (r : Refusal) → v ≡ Err r → g' ≡ g
+
 -- For whatever draft before it, the verdict of all questions of the statement of the head h is told; where it is yes, g' and the cells after are those of
 -- the draft after the statement. And where it ends
-pub record Reads (s lines : List ℕ) (g : Progress) (h : Head) (ms c sw en : List ℕ) (r : Answer) (c' sw' en' : List ℕ) : Type 0 where
-  pub told : (n : ℕ) (d : Draft) → Reading s lines n d g h ms c sw en → read_verdict r.read ≡ first_no (questions d (statement_at s n))
-  pub after : (n : ℕ) (d : Draft) → Reading s lines n d g h ms c sw en → (g' : Progress) → r.read ≡ Ok g'
+pub record Reads (s lines : List ℕ) (g : Progress) (h : Head) (ms c sw en : List ℕ) (r : Read) (next : Option ℕ) (c' sw' en' : List ℕ) : Type 0 where
+  pub told : (n : ℕ) (d : Draft) → Reading s lines n d g h ms c sw en → read_verdict r ≡ first_no (questions d (statement_at s n))
+  pub after : (n : ℕ) (d : Draft) → Reading s lines n d g h ms c sw en → (g' : Progress) → r ≡ Ok g'
       → Drafted s lines (draft_after d (statement_at s n)) g' ms c' sw' en'
-  pub ends : (n : ℕ) → Headed s n h → EndedBy s n r.next
+  pub ends : (n : ℕ) → Headed s n h → EndedBy s n next
   pub beyond : drop limit.table c' ≡ drop limit.table c
 
 -- some statement is read
@@ -69,16 +77,16 @@ pub record InstrReadable (s lines : List ℕ) (g : Progress) (h : Head) (o : Ope
   pub met : Met s lines g h ms c switches entries
   pub is : Some o ≡ instr_by (head_keyword h)
 
-abbrev pub ReadsInstr : List ℕ → List ℕ → Progress → Head → List ℕ → List ℕ → Answer → List ℕ → Type 0
-ReadsInstr s lines g h ms c r c' = (sw en : List ℕ) → Reads s lines g h ms c sw en r c' sw en
+abbrev pub ReadsInstr : List ℕ → List ℕ → Progress → Head → List ℕ → List ℕ → Read → Option ℕ → List ℕ → Type 0
+ReadsInstr s lines g h ms c r next c' = (sw en : List ℕ) → Reads s lines g h ms c sw en r next c' sw en
 
 pub record SwitchReadable (s : List ℕ) (g : Progress) (h : Head) (ms c sw en : List ℕ) : Type 0 where
   pub lines : List ℕ
   pub met : Met s lines g h ms c sw en
   pub some : is_switch (head_keyword h) ≡ true
 
-abbrev pub ReadsSwitch : List ℕ → Progress → Head → List ℕ → List ℕ → List ℕ → List ℕ → Answer → List ℕ → List ℕ → List ℕ → Type 0
-ReadsSwitch s g h ms c sw en r c' sw' en' = (lines : List ℕ) → Reads s lines g h ms c sw en r c' sw' en'
+abbrev pub ReadsSwitch : List ℕ → Progress → Head → List ℕ → List ℕ → List ℕ → List ℕ → Read → Option ℕ → List ℕ → List ℕ → List ℕ → Type 0
+ReadsSwitch s g h ms c sw en r next c' sw' en' = (lines : List ℕ) → Reads s lines g h ms c sw en r next c' sw' en'
 
 pub record EndingReadable (s : List ℕ) (g : Progress) (h : Head) (ms : List ℕ) : Type 0 where
   pub lines : List ℕ
@@ -89,8 +97,8 @@ pub record EndingReadable (s : List ℕ) (g : Progress) (h : Head) (ms : List �
   pub no_number : instr_of (head_keyword h) ≡ 0
   pub no_switch : is_switch (head_keyword h) ≡ false
 
-abbrev pub ReadsEnding : List ℕ → Progress → Head → List ℕ → Answer → Type 0
-ReadsEnding s g h ms r = (lines c sw en : List ℕ) → Reads s lines g h ms c sw en r c sw en
+abbrev pub ReadsEnding : List ℕ → Progress → Head → List ℕ → Read → Option ℕ → Type 0
+ReadsEnding s g h ms r next = (lines c sw en : List ℕ) → Reads s lines g h ms c sw en r next c sw en
 
 -- ---- a statement, before its head is read
 
@@ -98,10 +106,10 @@ pub record Readable (s lines : List ℕ) (n : ℕ) (g : Progress) (ms c sw en : 
   pub draft : Draft
   pub standing : Standing s lines n draft g ms c sw en
 
-pub record ReadsStatement (s lines : List ℕ) (n : ℕ) (g : Progress) (ms c sw en : List ℕ) (r : Answer) (ms' c' sw' en' : List ℕ) : Type 0 where
-  pub told : (d : Draft) → Standing s lines n d g ms c sw en → read_verdict r.read ≡ first_no (questions d (statement_at s n))
-  pub after : (d : Draft) → Standing s lines n d g ms c sw en → (g' : Progress) → r.read ≡ Ok g' → Drafted s lines (draft_after d (statement_at s n)) g' ms' c' sw' en'
-  pub ends : EndedBy s n r.next
+pub record ReadsStatement (s lines : List ℕ) (n : ℕ) (g : Progress) (ms c sw en : List ℕ) (r : Read) (next : Option ℕ) (ms' c' sw' en' : List ℕ) : Type 0 where
+  pub told : (d : Draft) → Standing s lines n d g ms c sw en → read_verdict r ≡ first_no (questions d (statement_at s n))
+  pub after : (d : Draft) → Standing s lines n d g ms c sw en → (g' : Progress) → r ≡ Ok g' → Drafted s lines (draft_after d (statement_at s n)) g' ms' c' sw' en'
+  pub ends : EndedBy s n next
   pub beyond : drop limit.table c' ≡ drop limit.table c
 
 -- ---- after all questions, whose verdict is v

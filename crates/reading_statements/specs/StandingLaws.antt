@@ -26,9 +26,7 @@ use Rattle.syntax.specs.Tables.{Draft, is_first, draft_after}
 use Rattle.syntax.specs.Verdict.{decide, first_no}
 use Rattle.syntax.specs.Verdict.Verdict.{yes}
 use Rattle.reading_statements.specs.GatheringLaws.{marks-behind}
-use Rattle.reading_statements.specs.ReadLaws.{answers}
-use Rattle.reading_statements.specs.ReadingStatements.{Standing, Reading, Reads, ReadsStatement}
-use Rattle.reading_statements.specs.declared.Answer.{Answer}
+use Rattle.reading_statements.specs.ReadingStatements.{Read, Standing, Reading, Reads, ReadsStatement}
 
 -- ---- the marks of the names before
 
@@ -122,7 +120,7 @@ module _ {s lines : List ℕ} {n : ℕ} {d : Draft} {g : Progress} {h : Head} {m
   k : Headed s n h
   k = (head-here r.inside o).0
 
-  pub reads_here : {a : Answer} {c' sw' en' : List ℕ} → Reads s lines g h ms' c sw en a c' sw' en' → ReadsStatement s lines n g ms c sw en a ms' c' sw' en'
+  pub reads_here : {y : Read} {next : Option ℕ} {c' sw' en' : List ℕ} → Reads s lines g h ms' c sw en y next c' sw' en' → ReadsStatement s lines n g ms c sw en y next ms' c' sw' en'
   reads_here t =
       record {
         told = λ d r. t.told n d (reading-here r o);
@@ -133,7 +131,7 @@ module _ {s lines : List ℕ} {n : ℕ} {d : Draft} {g : Progress} {h : Head} {m
 
   -- an empty statement
   module _ (e : (stops h.op.sort && eqb h.first h.op.at) ≡ true) where
-    pub reads-empty : {y : Option ℕ} → y ≡ following h.op → ReadsStatement s lines n g ms c sw en (answers (Ok g) y) ms' c sw en
+    pub reads-empty : {y : Option ℕ} → y ≡ following h.op → ReadsStatement s lines n g ms c sw en (Ok g) y ms' c sw en
     reads-empty p =
         record {
           told = λ d r. sym (ap (λ (js : List Item). first_no (questions d js)) (x-empty k e) ∙ empty-yes d (is_first d) refl);

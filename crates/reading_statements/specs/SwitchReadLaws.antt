@@ -61,7 +61,7 @@ use Rattle.reading_statements.specs.GatheringLaws.{marks-all, names-kept}
 use Rattle.reading_statements.specs.Judging.{Judging, from}
 use Rattle.reading_statements.specs.KindLaws.{zero-here, ends-behind, switch-asked, there, inside, whole, chooses, switch-acts}
 use Rattle.reading_statements.specs.QuestionLaws.{early-told, table_faults}
-use Rattle.reading_statements.specs.ReadLaws.{answers, plain, acting, labelled, spelt-rest, tables-here, rest-fine, rest-short, read_as}
+use Rattle.reading_statements.specs.ReadLaws.{plain, acting, labelled, spelt-rest, tables-here, rest-fine, rest-short, read_as}
 use Rattle.reading_statements.specs.ReadingStatements.{Read, Reading, Reads, Finishes}
 
 -- where there is one mark, it stands first
@@ -236,7 +236,7 @@ module _ {s : List ℕ} {h : Head} (some : is_switch (head_keyword h) ≡ true) 
           (switch-declarable r (answered _ (early-switch n d r ∙ ap verdict_of e)) some named-is list (rw held-is at room) long (rw held-is at few))
 
       pub read-switch : (w : told.Verdict) {c' sw' : List ℕ} → Admits (λ f. DeclaresSwitch s b c sw f c' sw') v w c c' → (later : List ℕ) {en' : List ℕ} → en' ≡ take held en ++ (em ++ later)
-          → length en ≡ limit.entries → length sw ≡ limit.switches → {y : Read} → Finishes g h (unchanged g) ms w y → Reads s lines g h ms c sw en (answers y l.next) c' sw' en'
+          → length en ≡ limit.entries → length sw ≡ limit.switches → {y : Read} → Finishes g h (unchanged g) ms w y → Reads s lines g h ms c sw en y l.next c' sw' en'
       read-switch w {c'} {sw'} t later parts entry_room switch_room z =
           read_as early-switch
           (λ n d r q f u. switch-last r q some named-is list (rw held-is at room) f (subst (λ (y : Declaration). DeclaresSwitch s y c sw f c' sw') b_is u) later (rw held-is at parts) entry_room switch_room)

@@ -13,7 +13,7 @@ ghost use Rattle.progress.specs.Advancing.{Advanceable};
 ghost use Rattle.words.specs.Keywords.{is_english};
 ghost use Rattle.reading_statements.specs.Admitting.{declaration, unchanged, Admits};
 ghost use Rattle.reading_statements.specs.Asking.{OperatorAsked, names_verdict, HeadAskable, HeadAsked};
-ghost use Rattle.reading_statements.specs.ReadingStatements.{Finishes, InstrReadable, ReadsInstr, SwitchReadable, ReadsSwitch, Endable, EndingTold, EndingReadable, ReadsEnding, Readable, ReadsStatement};
+ghost use Rattle.reading_statements.specs.ReadingStatements.{read_of, Stays, Finishes, InstrReadable, ReadsInstr, SwitchReadable, ReadsSwitch, Endable, EndingTold, EndingReadable, ReadsEnding, Readable, ReadsStatement};
 
 use declaring_switches::from_arguments::{Quoted, read_arguments};
 use declaring_switches::from_declaring::{Instruction, declare_instruction};
@@ -26,13 +26,13 @@ use language::{Machine, Operator};
 use lexer::{Token, line_at};
 use progress::from_headings::{Rest, after_fault, read_rest, section_fault, section_mark};
 use progress::{Progress, progress_after};
-use statements::{Fault, Question, Refusal, Verdict, decide, first_of, stops};
+use statements::{Fault, Question, Verdict, decide, first_of, stops};
 use table::Table;
 
-// What is known after a statement, or its refusal; and where the next statement begins, unless it is the last.
+// Whether a statement was read, or its refusal; and where the next statement begins, unless it is the last.
 #[derive(Clone, Copy, Debug, PartialEq, Eq)]
 pub struct Answer {
-    pub read: Result<Progress, Refusal>,
+    pub read: Verdict,
     pub next: Option<usize>,
 }
 
@@ -126,19 +126,17 @@ fn admit_switch(
     )
 }
 
-// After all questions: what is known then, or the refusal.
-fn finish(
-    verdict: Verdict,
-    p: Progress,
-    head: Head,
-    e: Ending,
-    names: &[u32],
-) -> Result<Progress, Refusal>
-    requires { Advanceable p head names.now }
-    ensures { Finishes p head e names.now verdict result }
+// After all questions: `p` becomes what is known then, or the refusal is told.
+// What is known is lent, here and in the callers: handed back whole, it was copied at each statement with the unused bytes between its fields, and an empty
+// statement took twice as long.
+fn finish(verdict: Verdict, p: &mut Progress, head: Head, e: Ending, names: &[u32]) -> Verdict
+    requires { Advanceable p.old head names.now }
+    ensures reads { Finishes p.old head e names.now verdict (read_of result p.new) }
+    ensures stays { Stays result p.old p.new }
 {
     verdict?;
-    Ok(progress_after(p, head, e.section, e.after, names))
+    *p = progress_after(*p, head, e.section, e.after, names);
+    Ok(())
 }
 
 // What an instruction or a switch says of the section: its name stays as it was.
@@ -157,16 +155,17 @@ fn read_instruction(
     lines: &[u16],
     head: Head,
     operator: Operator,
-    p: Progress,
+    p: &mut Progress,
     names: &[u32; Machine::TEXT],
     table: &mut [u32],
 ) -> Answer
-    requires { InstrReadable text.now lines.now p head operator names.now table.old }
-    ensures { ReadsInstr text.now lines.now p head names.now table.old result table.new }
+    requires { InstrReadable text.now lines.now p.old head operator names.now table.old }
+    ensures reads { ReadsInstr text.now lines.now p.old head names.now table.old (read_of result.read p.new) result.next table.new }
+    ensures stays { Stays result.read p.old p.new }
 {
     let op = head.op;
     let a = read_arguments(text, op, operator, head.worst);
-    let asked = ask_head(text, a.worst, head, Some(head.first), p, names);
+    let asked = ask_head(text, a.worst, head, Some(head.first), *p, names);
     let values = a.values;
     let i = Instruction {
         operator,
@@ -184,7 +183,7 @@ fn read_instruction(
     let labels = &names[p.first_waiting()..head.names];
     let verdict = admit_instruction(text, early, i, labels, table);
     Answer {
-        read: finish(verdict, p, head, unchanged(p), names),
+        read: finish(verdict, p, head, unchanged(*p), names),
         next: a.next,
     }
 }
@@ -206,14 +205,15 @@ fn switch_of(op: Token, named: bool, name: u32, l: Listed) -> Declaration
 fn read_switch(
     text: &[u8],
     head: Head,
-    p: Progress,
+    p: &mut Progress,
     names: &[u32; Machine::TEXT],
     table: &mut [u32],
     switches: &mut [u32; Machine::SWITCHES],
     entries: &mut [u32; Machine::ENTRIES],
 ) -> Answer
-    requires { SwitchReadable text.now p head names.now table.old switches.old entries.old }
-    ensures { ReadsSwitch text.now p head names.now table.old switches.old entries.old result table.new switches.new entries.new }
+    requires { SwitchReadable text.now p.old head names.now table.old switches.old entries.old }
+    ensures reads { ReadsSwitch text.now p.old head names.now table.old switches.old entries.old (read_of result.read p.new) result.next table.new switches.new entries.new }
+    ensures stays { Stays result.read p.old p.new }
 {
     let op = head.op;
     let named = is_by_name(head.keyword());
@@ -227,13 +227,13 @@ fn read_switch(
         &mut entries[held..],
         &mut texts,
     );
-    let asked = ask_head(text, l.worst, head, Some(head.first), p, names);
+    let asked = ask_head(text, l.worst, head, Some(head.first), *p, names);
     let d = switch_of(op, named, names[p.first_waiting()], l);
     let early = first_of(asked, decide(Question::Argument, l.fault));
     let own = &texts[..l.words.min(Machine::ENTRIES - held)];
     let verdict = admit_switch(text, early, d, table, switches, own);
     Answer {
-        read: finish(verdict, p, head, unchanged(p), names),
+        read: finish(verdict, p, head, unchanged(*p), names),
         next: l.next,
     }
 }
@@ -254,14 +254,15 @@ fn ending_of(text: &[u8], head: Head, rest: Rest, section: Option<u32>) -> Endin
 }
 
 // A statement that is neither: SEKCJA, KONS, KONP, or labels alone.
-fn read_ending(text: &[u8], head: Head, p: Progress, names: &[u32; Machine::TEXT]) -> Answer
-    requires { EndingReadable text.now p head names.now }
-    ensures { ReadsEnding text.now p head names.now result }
+fn read_ending(text: &[u8], head: Head, p: &mut Progress, names: &[u32; Machine::TEXT]) -> Answer
+    requires { EndingReadable text.now p.old head names.now }
+    ensures reads { ReadsEnding text.now p.old head names.now (read_of result.read p.new) result.next }
+    ensures stays { Stays result.read p.old p.new }
 {
     let op = head.op;
     let rest = read_rest(text, op, head.worst);
     let zero = section_fault(text, head, rest);
-    let asked = ask_head(text, rest.worst, head, zero, p, names);
+    let asked = ask_head(text, rest.worst, head, zero, *p, names);
     let e = ending_of(text, head, rest, p.section);
     Answer {
         read: finish(asked, p, head, e, names),
@@ -278,25 +279,27 @@ fn is_empty(head: Head) -> bool
 }
 
 // The statement at `n` of a text whose bytes have the lines `lines`: "Load hands the unread rest of the text to the next statement."
-// The four rows are no struct: of one that holds `&mut` each contract would also have to say that each field still lends the same row.
+// The four rows are no struct: of one that holds `&mut` each contract would also have to say that each field still lends the same row. What is known of the
+// text, `p`, stays as it was where the statement is refused.
 pub fn read_statement(
     text: &[u8],
     lines: &[u16],
     n: usize,
-    p: Progress,
+    p: &mut Progress,
     names: &mut [u32; Machine::TEXT],
     table: &mut [u32],
     switches: &mut [u32; Machine::SWITCHES],
     entries: &mut [u32; Machine::ENTRIES],
 ) -> Answer
-    requires { Readable text.now lines.now n p names.old table.old switches.old entries.old }
-    ensures { ReadsStatement text.now lines.now n p names.old table.old switches.old entries.old result names.new table.new switches.new entries.new }
+    requires { Readable text.now lines.now n p.old names.old table.old switches.old entries.old }
+    ensures reads { ReadsStatement text.now lines.now n p.old names.old table.old switches.old entries.old (read_of result.read p.new) result.next names.new table.new switches.new entries.new }
+    ensures stays { Stays result.read p.old p.new }
 {
     let head = read_head(&text[n..], n, names, p.names);
     let keyword = head.keyword();
     if is_empty(head) {
         return Answer {
-            read: Ok(p),
+            read: Ok(()),
             next: following(head.op),
         };
     }

@@ -21,6 +21,6 @@ ending_of-e-requires c = let o = c.read_rest-rest.ensures in
 pub finish-requires : goal.finish-requires
 finish-requires c = advanceable c.requires.met.reading.judging
 
-pub returns : goal.returns
-returns c = let p = c.requires in
-    read_ending p.no_number p.no_switch c.read_rest-rest.ensures c.ask_head-asked.result c.section_fault-zero.ensures c.ask_head-asked.ensures c.ending_of-e.ensures c.finish.ensures
+pub returns-clause-reads : goal.returns-clause-reads
+returns-clause-reads c = let p = c.requires in
+    read_ending p.no_number p.no_switch c.read_rest-rest.ensures c.ask_head-asked.result c.section_fault-zero.ensures c.ask_head-asked.ensures c.ending_of-e.ensures c.finish.ensures.reads

@@ -31,8 +31,8 @@ admit_instruction-verdict-requires c =
 pub finish-requires : goal.finish-requires
 finish-requires c = advanceable c.requires.met.reading.judging
 
-pub returns : goal.returns
-returns c =
+pub returns-clause-reads : goal.returns-clause-reads
+returns-clause-reads c =
     let p = c.requires in
     let all = (c.first_of-early.ensures ∙ ap (then (verdict_of c.ask_head-asked.result)) (c.first_of.ensures ∙ ap (λ (y : Verdict). then y (verdict_of c.decide-2.result)) c.decide.ensures ∙ ap (then (decided 1 c.read_arguments-a.result.over)) c.decide-2.ensures)) in
-    read-instr p.is c.read_arguments-a.ensures c.ask_head-asked.result c.first_of-early.result c.ask_head-asked.ensures all (c.from.ensures ∙ c.line_at.ensures) c.admit_instruction-verdict.result (rw c.first_waiting.ensures at c.admit_instruction-verdict.ensures) (rw c.unchanged.ensures at c.finish.ensures)
+    read-instr p.is c.read_arguments-a.ensures c.ask_head-asked.result c.first_of-early.result c.ask_head-asked.ensures all (c.from.ensures ∙ c.line_at.ensures) c.admit_instruction-verdict.result (rw c.first_waiting.ensures at c.admit_instruction-verdict.ensures) (rw c.unchanged.ensures at c.finish.ensures.reads)

@@ -5,8 +5,8 @@ use Rattle.heads.specs.HeadLaws.{no-number}
 use Rattle.reading_statements.specs.StandingLaws.{reading-here, reads_here, reads-empty}
 use Rattle.reading_statements.proofs.read_statement.Goals as goal
 
-pub returns-then-is_empty : goal.returns-then-is_empty
-returns-then-is_empty c =
+pub returns-then-is_empty-clause-reads : goal.returns-then-is_empty-clause-reads
+returns-then-is_empty-clause-reads c =
     let p = c.requires in
     reads-empty p.standing c.read_head-head.ensures (sym c.is_empty.ensures ∙ c.if-is_empty.true) c.following.ensures
 
@@ -20,10 +20,10 @@ read_instruction-requires c =
       is = c.in-Some.ensures ∙ ap instr_by c.keyword-keyword.ensures;
     }
 
-pub returns-in-Some : goal.returns-in-Some
-returns-in-Some c =
+pub returns-in-Some-clause-reads : goal.returns-in-Some-clause-reads
+returns-in-Some-clause-reads c =
     let p = c.requires in
-    reads_here p.standing c.read_head-head.ensures (c.read_instruction.ensures _ _)
+    reads_here p.standing c.read_head-head.ensures (c.read_instruction.ensures.reads _ _)
 
 pub read_switch-requires : goal.read_switch-requires
 read_switch-requires c =
@@ -34,10 +34,10 @@ read_switch-requires c =
       some = sym (c.is_switch.ensures ∙ ap is_switch c.keyword-keyword.ensures) ∙ c.if-is_switch.true;
     }
 
-pub returns-then-is_switch : goal.returns-then-is_switch
-returns-then-is_switch c =
+pub returns-then-is_switch-clause-reads : goal.returns-then-is_switch-clause-reads
+returns-then-is_switch-clause-reads c =
     let p = c.requires in
-    reads_here p.standing c.read_head-head.ensures (c.read_switch.ensures _)
+    reads_here p.standing c.read_head-head.ensures (c.read_switch.ensures.reads _)
 
 pub read_ending-requires : goal.read_ending-requires
 read_ending-requires c =
@@ -52,7 +52,7 @@ read_ending-requires c =
       no_switch = sym (c.is_switch.ensures ∙ ap is_switch c.keyword-keyword.ensures) ∙ c.if-is_switch.false;
     }
 
-pub returns : goal.returns
-returns c =
+pub returns-clause-reads : goal.returns-clause-reads
+returns-clause-reads c =
     let p = c.requires in
-    reads_here p.standing c.read_head-head.ensures (c.read_ending.ensures _ _ _ _)
+    reads_here p.standing c.read_head-head.ensures (c.read_ending.ensures.reads _ _ _ _)

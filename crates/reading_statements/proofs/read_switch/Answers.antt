@@ -49,11 +49,11 @@ admit_switch-verdict-requires c =
 pub finish-requires : goal.finish-requires
 finish-requires c = advanceable c.requires.met.reading.judging
 
-pub returns : goal.returns
-returns c =
+pub returns-clause-reads : goal.returns-clause-reads
+returns-clause-reads c =
     let p = c.requires in
     let r = p.met.reading in
     λ lines.
     read-switch p.some (c.is_by_name-named.ensures ∙ ap is_by_name c.keyword.ensures) c.read_list-l.ensures c.ask_head-asked.result c.first_of-early.result c.ask_head-asked.ensures (c.first_of-early.ensures ∙ ap (then (verdict_of c.ask_head-asked.result)) c.decide.ensures) c.entries-held.ensures.is
     (omega (arith, c.entries-held.ensures.is, held_most r.tabled)) (rw c.first_waiting.ensures at c.switch_of-d.ensures) c.admit_switch-verdict.result
-    c.admit_switch-verdict.ensures _ refl (omega arith) (omega arith) (rw c.unchanged.ensures at c.finish.ensures)
+    c.admit_switch-verdict.ensures _ refl (omega arith) (omega arith) (rw c.unchanged.ensures at c.finish.ensures.reads)
