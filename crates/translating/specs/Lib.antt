@@ -1,1 +1,2 @@
 pub mod Translating
+pub mod WrittenLaws
