@@ -1,8 +1,8 @@
 /* EOL-2 for C: load a program text, start a state, run it under a budget; turn a text into the other edition; write a state as text and read it
    back; give the short part of a text that shows its fault; run a program on the work of a class.
 
-   The library is for x86-64 Linux: `host/library` writes target/staticlib/libinterpreter.a, which needs memcpy and memset, and nothing
-   else. `cc -Iinclude host.c target/staticlib/libinterpreter.a` builds a program over it. host/eol2.c is a short one, and `host/run`
+   The library is for x86-64 Linux: `host/library` writes target/staticlib/libinterpreter.a, which needs memcpy, memmove and memset, and
+   nothing else. `cc -Iinclude host.c target/staticlib/libinterpreter.a` builds a program over it. host/eol2.c is a short one, and `host/run`
    builds and runs it.
 
        static uint32_t table[EOL2_TABLE];

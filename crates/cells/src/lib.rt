@@ -9,7 +9,9 @@ pub fn put(dst: &mut [u8], at: usize, src: &[u8])
     requires { at + length src.now ≤ length dst.old }
     ensures { dst.new ≡ pasted dst.old at src.now }
 {
-    dst[at..at + src.len()].copy_from_slice(src);
+    for (j, x) in src.iter().enumerate() {
+        dst[at + j] = *x;
+    }
 }
 
 // Sets the `n` cells of `dst` from index `at` to 0.

@@ -8,9 +8,12 @@ ghost use Rattle.characters.specs.Classes.{letter_of, place_of};
 
 pub const COUNT: usize = 87;
 
-// The characters by rank: that of rank k at k - 1.
+// The characters by rank: that of rank k at k - 1, and the letter of its class at the same place of `CLASSES`.
 const CHARACTERS: [u8; COUNT] =
     *b" .(+*);-/,:'=[]<>?\x1b\x0eABCDEFGHIJKLMNOPQRSTUVWXYZabcdefghijklmnopqrstuvwxyz\x0f0123456789\n\x0c\r\x7f";
+
+pub const CLASSES: [u8; COUNT] =
+    *b"BRRRRRRRRRRRRRRRRRRRLLLLLLLLLLLLLLLLLLLLLLLLLLLLLLLLLLLLLLLLLLLLLLLLLLLLRDDDDDDDDDDRRRR";
 
 // By byte: 1 for a character and 0 for any other. A table, since a match over ranges takes three to five times as long a byte; a static, since a
 // constant would be copied at each use.
@@ -72,7 +75,13 @@ pub fn byte_of(r: usize) -> u8
 pub fn class_at(r: usize) -> u8
     ensures { result ≡ class_of (byte_of r) }
 {
-    Class::of(byte_of(r)).letter()
+    if r == 0 {
+        return b'R';
+    }
+    if COUNT < r {
+        return b'R';
+    }
+    CLASSES[r - 1]
 }
 
 pub fn between(a: u8, z: u8, b: u8) -> bool

@@ -55,9 +55,13 @@ module _ (t : List ℕ) where
   abbrev pub chars_fit : ℕ → ℕ → Bool → Bool
   chars_fit at n name = passes (char_fits at n name) 60 0
 
-  -- text k has 2 to 60 characters; the texts i and j have the same cells
+  -- text k has 2 to 60 characters
   unfoldable pub text_fits : ℕ → Bool
   text_fits k = ltb 1 (cell t (layout.first_text + 16 * k)) && leb (cell t (layout.first_text + 16 * k)) 60 && chars_fit (layout.first_characters + 16 * k) (cell t (layout.first_text + 16 * k)) false
+
+  -- the 16 cells from one place on are those from another on; so are those of the texts i and j
+  abbrev pub rows_same : ℕ → ℕ → Bool
+  rows_same first second = passes (λ q. eqb (cell t (first + q)) (cell t (second + q))) 16 0
 
   unfoldable pub texts_same : ℕ → ℕ → Bool
   texts_same i j = passes (λ q. eqb (cell t (layout.first_text + 16 * i + q)) (cell t (layout.first_text + 16 * j + q))) 16 0

@@ -2,11 +2,12 @@
 // the table count as zero.
 #![tactic(auto)]
 
-ghost use Rattle.std.specs.Prelude.{◌≡◌, ◌+◌, ◌<◌};
+ghost use Rattle.std.specs.Prelude.{◌≡◌, ◌+◌, ◌≤◌, ◌<◌};
 ghost use Rattle.cells.specs.Cells.{Number};
+ghost use Rattle.language.specs.Limits as limit;
 ghost use Rattle.layout.specs.Cells.{cell};
 ghost use Rattle.packed.specs.Packed.{table_of};
-ghost use Rattle.check_parts.specs.Parts.{zeros, char, char_fits, chars_fit, text_fits, texts_same, number_fits, label_fits, ref_fits, entry_fits};
+ghost use Rattle.check_parts.specs.Parts.{zeros, char, char_fits, chars_fit, text_fits, rows_same, texts_same, number_fits, label_fits, ref_fits, entry_fits};
 
 use language::Machine;
 use layout::{EntryCell, Pair, TablePlaces};
@@ -75,6 +76,19 @@ pub fn text_fits(table: Table, k: usize) -> bool
         )
 }
 
+// Whether the cells of two texts that lie in the table, from `first` and from `second` on, are the same. By `read` each cell asks whether it lies there.
+fn rows_same(table: Table, first: usize, second: usize) -> bool
+    requires { (first + 16 ≤ limit.table) × (second + 16 ≤ limit.table) }
+    ensures { result ≡ rows_same (table_of table.entry.cells.now) first second }
+{
+    for q in 0..TablePlaces::TEXT_SIZE {
+        if table.cells[first + q] != table.cells[second + q] {
+            return false;
+        }
+    }
+    true
+}
+
 // Whether the texts `i` and `j` have the same cells.
 pub fn texts_same(table: Table, i: usize, j: usize) -> bool
     requires { i + j < 512 }
@@ -82,6 +96,9 @@ pub fn texts_same(table: Table, i: usize, j: usize) -> bool
 {
     let first = TablePlaces::FIRST_TEXT + TablePlaces::TEXT_SIZE * i;
     let second = TablePlaces::FIRST_TEXT + TablePlaces::TEXT_SIZE * j;
+    if first.max(second) + TablePlaces::TEXT_SIZE <= Machine::TABLE {
+        return rows_same(table, first, second);
+    }
     (0..TablePlaces::TEXT_SIZE).all(|q| read(table, first + q) == read(table, second + q))
 }
 

@@ -2,9 +2,10 @@
 use mathlib.Core.Path.{◌≡◌, refl, sym, ◌∙◌}
 use mathlib.Core.Bool.{Bool, true, false, cond, ◌&&◌}
 use mathlib.Core.List.{List, [], ◌∷◌, ◌++◌, append-nil}
-use Prim.Native.Nat.{ℕ, ◌/◌, ◌%◌, ◌^◌}
+use Prim.Native.Nat.{ℕ, ◌/◌, ◌%◌, ◌^◌, ◌<◌}
 use native.Mathlib.Omega.{arith}
-use lib.Dec.{eqb}
+use lib.Dec.{eqb, eqb→eq}
+use lib.ListN.{get_or}
 use borrow.Author.Tests.{eq-eqb, ne_eqb}
 use Rattle.characters.specs.Characters.{is_letter, is_digit, class_of, class_place}
 use Rattle.components.proofs.Fronts.{front-kind}
@@ -13,7 +14,16 @@ use Rattle.components.specs.Below.LayoutCells.{cell}
 use Rattle.components.specs.Below.Components.{component_in}
 use Rattle.characters.specs.Below.Lists.{all, ahead, among}
 use Rattle.characters.specs.Below.Quoted.{bytes}
+use Rattle.characters.specs.Below.ListsTableLaws.{below}
 use Rattle.matching.specs.Tests.{in_class}
+
+-- the table of the source: the place of each byte's class
+abbrev pub places : List ℕ
+places =
+    bytes "3333333333333333333333333333333323333333333333331111111111333333300000000000000000000000000333333000000000000000000000000003333333333333333333333333333333333333333333333333333333333333333333333333333333333333333333333333333333333333333333333333333333333333"
+
+pub place_by : (b : ℕ) → b < 256 → get_or places b 0 % 4 ≡ class_place b
+place_by b h = eqb→eq (get_or places b 0 % 4) (class_place b) (below (λ k. eqb (get_or places k 0 % 4) (class_place k)) 256 tt b h)
 
 -- whether c is in a list of letters that stand there or not
 module _ (c k : ℕ) (t : Bool) (v : List ℕ) where

@@ -3,7 +3,7 @@ use mathlib.Core.Path.{◌≡◌, sym, ap, ◌∙◌}
 use mathlib.Core.List.{List}
 use Prim.Native.Nat.{ℕ, ◌+◌, ◌-◌, ◌≤◌, ◌<◌}
 use native.Mathlib.Omega.{arith}
-use lib.ListN.{get_or, get_or-eq_default, length, take, drop}
+use lib.ListN.{get_or, get_or-eq_default, take, drop}
 use lib.Seq.{get_or-take}
 use borrow.Author.Tests.{lt-ltb, le-ltb}
 use Rattle.packed.specs.Below.Letters as letters
@@ -13,7 +13,7 @@ use Rattle.std.specs.Prelude.{Result, Ok, Err}
 use Rattle.std.specs.Result.{result_unwrap_or}
 use Rattle.packed.specs.Below.Table.{number_by}
 use Rattle.packed.specs.Below.LayoutPlaces as layout
-use Rattle.std.proofs.lemmas.List.{drop-take, take-take, take_rest}
+use Rattle.std.proofs.lemmas.List.{drop-take, take-take}
 use Rattle.packed.specs.Packed.{table_of}
 use Rattle.table.specs.Denote.{letter_of, letter_at}
 use Rattle.table.specs.LetterPlaces.{AtPlace}
@@ -25,10 +25,10 @@ pub cell_in : (c : List ℕ) (k : ℕ) → k < 8192 → cell (table_of c) k ≡ 
 cell_in c k h = get_or-take 8192 c k 0 h
 
 -- a row of 15 cells that lies in the table
-pub row_in : (c : List ℕ) (at : ℕ) → at + 15 ≤ 8192 → take 15 (take (length c - at) (drop at c)) ≡ take 15 (drop at (table_of c))
+pub row_in : (c : List ℕ) (at : ℕ) → at + 15 ≤ 8192 → take 15 (take (at + 15 - at) (drop at c)) ≡ take 15 (drop at (table_of c))
 row_in c at h =
     let e : at + (8192 - at) ≡ 8192 = omega arith in
-    ap (take 15) (take_rest c at) ∙ sym (ap (take 15) (ap (λ n. drop at (take n c)) (sym e) ∙ drop-take at (8192 - at) c) ∙ take-take 15 (8192 - at) (drop at c) (omega arith))
+    take-take 15 (at + 15 - at) (drop at c) (omega arith) ∙ sym (ap (take 15) (ap (λ n. drop at (take n c)) (sym e) ∙ drop-take at (8192 - at) c) ∙ take-take 15 (8192 - at) (drop at c) (omega arith))
 
 -- the letter at a place, and A where there is none
 pub placed_letter : (n : ℕ) (d : Letter) (r : Result Letter NoLetter) → AtPlace n r → letter_of d ≡ letters.Letter.A → letter_of (result_unwrap_or r d) ≡ letter_at n

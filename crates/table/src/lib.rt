@@ -177,7 +177,7 @@ impl<'a> Table<'a> {
         requires { at + 15 ≤ limit.table }
         ensures { result.now ≡ take 15 (drop at (table_of self.entry.cells.now)) }
     {
-        self.cells[at..].first_chunk::<15>().unwrap()
+        self.cells[at..at + 15].first_chunk::<15>().unwrap()
     }
 
     // The value + 8,388,607 of a number that an argument refers to.

@@ -5,11 +5,11 @@ use Rattle.lexer.proofs.Finding.{one_sort}
 use Rattle.lexer.proofs.Naming.{next-other, next_word, fine_word}
 use Rattle.lexer.proofs.next_item.Goals as goal
 
-pub returns-then-not-is : goal.returns-then-not-is
-returns-then-not-is c = next-other c.item_at-t.ensures (sym c.is.ensures ∙ c.if-not-is.true)
+pub returns-else-is : goal.returns-else-is
+returns-else-is c = next-other c.item_at-t.ensures (sym c.is.ensures ∙ c.if-is.false)
 
-pub returns : goal.returns
-returns c =
+pub returns-then-is : goal.returns-then-is
+returns-then-is c =
     let t = c.item_at-t.result in
-    let w = one_sort (Some Sort.Word) t.sort (sym c.is.ensures ∙ c.if-not-is.false) in
+    let w = one_sort (Some Sort.Word) t.sort (sym c.is.ensures ∙ c.if-is.true) in
     rw (w, fine_word c.item_at-t.ensures w) (next_word c.item_at-t.ensures w c.colon_after-a.ensures)
