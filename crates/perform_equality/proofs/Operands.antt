@@ -3,7 +3,7 @@ use mathlib.Core.Path.{◌≡◌, refl, sym, ◌∙◌}
 use mathlib.Core.Bool.{Bool, true, false, ◌||◌}
 use mathlib.Core.List.{List}
 use mathlib.Core.Logic.{◌⊎◌, inl, inr}
-use Prim.Native.Nat.{ℕ}
+use Prim.Native.Nat.{ℕ, ◌+◌, ◌*◌}
 use lib.Dec.{T, eqb}
 use Rattle.lists.specs.Lists.{all, among}
 use Rattle.lists.specs.ListLaws.{all_among}
@@ -15,6 +15,7 @@ use Rattle.language.specs.Program.{Op}
 use Rattle.language.specs.Program.Arg.{nothing}
 use Rattle.language.specs.Program.Op.{RW, RZ}
 use Rattle.language.specs.Values.{State}
+use Rattle.layout.specs.Places as layout
 use Rattle.layout.specs.Table.{program_of}
 use Rattle.machine.specs.Effects.{row}
 use Rattle.machine.specs.WellFormed.{form}
@@ -34,14 +35,17 @@ use Rattle.instructions.specs.Below.Source.{Source}
 use Rattle.state.specs.Working.{nth, reading}
 use Rattle.table.specs.Denote.{letter_of, arg_of}
 use Rattle.table.specs.LetterLaws.{listed-letter}
+use Rattle.table.specs.Reads.{IsArgument}
 use Rattle.table.specs.declared.Argument.{Argument}
 use Rattle.perform_moves.specs.Below.Stepping.{inputs}
 use Rattle.perform_moves.specs.Below.Performing.{Performing, Performs}
 use Rattle.perform_moves.specs.Below.Operating.{Carrying, PerformsFor}
 use Rattle.perform_moves.specs.Below.OperatingLaws.{carrying, performs}
 use Rattle.performing.specs.CarryingLaws.{good-itself, formed, first-named, third-none, performed}
+use Rattle.performing.specs.Places.{PerformingAt}
+use Rattle.performing.specs.PlaceLaws.{performing-one}
 use Rattle.perform_moves.proofs.Operands.{named-of, no_others, unread}
-use Rattle.perform_equality.specs.Equating.{any_letter, IsAny}
+use Rattle.perform_equality.specs.Equating.{any_letter, IsAny, RelatingExpression}
 
 -- ---- the second argument
 
@@ -83,7 +87,7 @@ module _ {x : Argument} (n : Named (bytes "ABT") x) {r : Bool} (a : IsAny x r) w
         listed = h;
       }
 
-  any-named : r ≡ true → Named (bytes "T") x
+  pub any-named : r ≡ true → Named (bytes "T") x
   any-named q = renamed (bytes "T") (go (any_letter a.letter) (sym a.any ∙ q))
     where
       go : (b : Bool) → b ≡ true → T (b || false)
@@ -167,3 +171,8 @@ module _ {c i j : List ℕ} {σ : State} {x y z : Argument} (w : Performing c i 
   -- of an expression
   pub related-expression : {v : Variable} → IsVariable x v → v ≡ Expression → Named (bytes "ABT") x
   related-expression which q = named-of (bytes "ABTI") related-named which (bytes "ABT") Expression tt q
+
+-- by its place, its first argument read
+pub expression-relating : {c i j : List ℕ} {σ : State} {k : ℕ} {x : Argument} → PerformingAt c i j σ RW k
+    → IsArgument (table_of c) (1 + (layout.first_instruction + 4 * k)) x → {v : Variable} → IsVariable x v → v ≡ Expression → RelatingExpression c σ k x
+expression-relating w f which q = record { carrying = w.carrying; read = f; expression = related-expression (performing-one w f) which q }

@@ -1,6 +1,6 @@
 -- `perform_equality::relate` meets its contract.
 use Rattle.performing.specs.PlaceLaws.{performing-one, performing-two}
-use Rattle.perform_equality.proofs.Operands.{related-named, related-others, input-relatable, input-related, related-expression}
+use Rattle.perform_equality.proofs.Operands.{related-named, related-others, input-relatable, input-related, expression-relating}
 use Rattle.perform_equality.proofs.relate.Goals as goal
 
 pub index_of-index-requires : goal.index_of-index-requires
@@ -13,12 +13,7 @@ pub rw_input-requires : goal.rw_input-requires
 rw_input-requires c = input-relatable (performing-two c.requires c.first-x.ensures c.second.ensures) c.index_of-index.ensures c.variable_of.ensures c.in-Input.is
 
 pub relate_expression-requires : goal.relate_expression-requires
-relate_expression-requires c =
-    record {
-      carrying = c.requires.carrying;
-      read = c.first-x.ensures;
-      expression = related-expression (performing-one c.requires c.first-x.ensures) c.variable_of.ensures c.in-Expression.is;
-    }
+relate_expression-requires c = expression-relating c.requires c.first-x.ensures c.variable_of.ensures c.in-Expression.is
 
 pub returns-in-Input : goal.returns-in-Input
 returns-in-Input c = input-related (performing-two c.requires c.first-x.ensures c.second.ensures) c.index_of-index.ensures c.variable_of.ensures c.in-Input.is c.rw_input.ensures
